@@ -1,0 +1,1 @@
+-- The cases marked P (paper 01, "Cases marked P").

@@ -1,0 +1,23 @@
+-- What the slot core means. The modules stand in the order in which a reader needs them; each opens with the words of
+-- paper 01 that it stands for. No proof stands in this folder: ../proofs has them.
+
+-- the numbers that a later edition may change
+pub mod Sizes
+-- the pieces
+pub mod Generator
+pub mod Draw
+pub mod Client
+pub mod State
+-- answers, and the table of numbers
+pub mod Answers
+pub mod Checks
+-- the seven calls
+pub mod Calls
+pub mod Tick
+pub mod Core
+-- what is claimed of all histories
+pub mod History
+pub mod Sameness
+pub mod Limits
+pub mod Bound
+pub mod Cases

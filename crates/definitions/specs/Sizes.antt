@@ -1,0 +1,43 @@
+-- The sizes that paper 01 fixes, each under one name. They are shut: a proof that needs the digits has to say so.
+use Prim.Native.Nat.{ℕ}
+
+-- "Ids run from 0 to 63."
+unfoldable pub ids : ℕ
+ids = 64
+
+-- "2,048 places, 32 for each of the 64 ids"
+unfoldable pub places : ℕ
+places = 32
+
+-- "a pool, a count of dummies from 0 to 255"
+unfoldable pub poolLimit : ℕ
+poolLimit = 255
+
+-- "A rate is a number of 1/1024 shares of the link." A packet costs as much of a bucket, and a burst is counted in it.
+unfoldable pub shares : ℕ
+shares = 1024
+
+-- "a burst, 1 to 64"
+unfoldable pub burstLimit : ℕ
+burstLimit = 64
+
+-- "length outside 64..1518" is refused; private packets are padded to the longest
+unfoldable pub shortest : ℕ
+shortest = 64
+
+unfoldable pub longest : ℕ
+longest = 1518
+
+-- "indifferent (type 1) or private (type 2)"
+unfoldable pub indifferentType : ℕ
+indifferentType = 1
+
+unfoldable pub privateType : ℕ
+privateType = 2
+
+-- "discipline (0: first come first served; 1: weighted draw)"
+unfoldable pub firstCome : ℕ
+firstCome = 0
+
+unfoldable pub weightedDraw : ℕ
+weightedDraw = 1

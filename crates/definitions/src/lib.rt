@@ -1,0 +1,63 @@
+// The types of paper 01: what is handed to the core and what it answers. Their meaning stands in specs/.
+
+// A packet: a handle, which the core carries and never reads, and a length in bytes.
+pub struct Packet {
+    pub handle: u32,
+    pub length: u32,
+}
+
+// The seven calls, with their arguments in the order of the paper. Any number may stand anywhere.
+pub enum Call {
+    Open {
+        threshold: u32,
+        discipline: u32,
+        seed: u32,
+    },
+    Join {
+        id: u32,
+        kind: u32,
+        rate: u32,
+        burst: u32,
+    },
+    Change {
+        id: u32,
+        kind: u32,
+        rate: u32,
+        burst: u32,
+    },
+    Leave {
+        id: u32,
+    },
+    Load {
+        id: u32,
+        dummies: u32,
+    },
+    Arrive {
+        id: u32,
+        packet: Packet,
+    },
+    Tick,
+}
+
+// What leaves in a slot: "one of four, and a real one carries its packet".
+pub enum Outcome {
+    Real {
+        id: u32,
+        packet: Packet,
+        padding: u32,
+    },
+    Dummy {
+        id: u32,
+    },
+    Idle {
+        id: u32,
+    },
+    None,
+}
+
+// What a call gets: accepted, the number of the first check that failed, or the slot.
+pub enum Answer {
+    Accepted,
+    Refused { number: u32 },
+    Slot { outcome: Outcome },
+}
