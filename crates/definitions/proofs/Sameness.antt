@@ -1,0 +1,6 @@
+pub mod Erase
+pub mod Calls
+pub mod Slot
+pub mod Kinds
+pub mod Histories
+pub mod Theorem

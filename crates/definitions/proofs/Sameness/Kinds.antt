@@ -1,0 +1,129 @@
+-- Which ids are indifferent: what the paper reads off the accepted opens, joins, changes and leaves is the kind that the
+-- core holds. By induction on the history; each call either keeps an id's kind or sets it. Assumes nothing.
+use Prim.Native.Nat.{ℕ}
+use mathlib.Core.Path.{_≡_, refl, sym, ap, _∙_}
+use mathlib.Core.Bool.{Bool, true, false, cond}
+use mathlib.Core.List.{List}
+use lib.Dec.{eqb}
+use borrow.Author.Tests.{eqb-true}
+use Rattle.definitions.specs.declared.Call.{Call}
+use Rattle.definitions.specs.declared.Call.the-variants.{Open, Join, Change, Leave, Load, Arrive, Tick}
+use Rattle.definitions.specs.Sizes.{indifferentType, privateType}
+use Rattle.definitions.specs.Client.{Client, Kind, absent, indifferent, private, isIndifferent, kindOf, sameKind, nobody, joining, retuned, changed, loaded, queued, spent, refilled}
+use Rattle.definitions.specs.State.{State, Core, unopened, running, fresh, put, without}
+use Rattle.definitions.specs.Answers.{isAccepted}
+use Rattle.definitions.specs.Checks.{Result, Check, checked, accepted, openChecks, joinChecks, changeChecks, leaveChecks, loadChecks, arriveChecks}
+use Rattle.definitions.specs.Calls.{onOpen, updated, onJoin, orderAfterChange, onChange, onLeave, onLoad, orderAfterArrival, onArrive}
+use Rattle.definitions.specs.Tick.{Rule, rule1, rule2, rule3, turn, clientsAfter, refillAll, slotted, onTick}
+use Rattle.definitions.specs.Core.{step}
+use Rattle.definitions.specs.History.{History, start, _then_, clientOf, scheduler}
+use Rattle.definitions.specs.Sameness.{indifferentBy, after, answerAt, indifferentAt}
+use Rattle.definitions.proofs.Laws.{checked-elim, eqb-comm}
+
+kindOf-indifferent : (type : ℕ) → isIndifferent (kindOf type) ≡ eqb type indifferentType
+unfolding kindOf
+kindOf-indifferent type = go (eqb type indifferentType) (eqb type privateType)
+  where
+    go : (a b : Bool) → isIndifferent (cond a indifferent (cond b private absent)) ≡ a
+    go true b = refl
+    go false true = refl
+    go false false = refl
+
+sameKind-indifferent : (k l : Kind) → sameKind k l ≡ true → isIndifferent k ≡ isIndifferent l
+sameKind-indifferent absent absent e = refl
+sameKind-indifferent absent indifferent e = e
+sameKind-indifferent absent private e = refl
+sameKind-indifferent indifferent l e = sym e
+sameKind-indifferent private absent e = refl
+sameKind-indifferent private indifferent e = e
+sameKind-indifferent private private e = refl
+
+-- whether an id is indifferent in a core
+unfoldable pub holdsIndifferent : ℕ → Core → Bool
+holdsIndifferent id core = isIndifferent (clientOf core id .kind)
+
+-- what the paper reads off a call and its answer, and what the core holds after it
+abbrev Told : ℕ → Call → Bool → Result → Type 0
+Told id c was r = holdsIndifferent id (r .core) ≡ cond (isAccepted (r .answer)) (indifferentBy id c was) was
+
+module _ (id : ℕ) (s : State) where
+  -- a checked call: a refusal changes nothing, so what is left is the call when accepted
+  told-checked : (c : Call) (cs : List Check) (t : State)
+      → isIndifferent (t .clients id .kind) ≡ indifferentBy id c (isIndifferent (s .clients id .kind))
+      → Told id c (isIndifferent (s .clients id .kind)) (checked cs (running s) (accepted t))
+  unfolding holdsIndifferent clientOf isAccepted
+  told-checked c cs t e =
+      checked-elim (Told id c (isIndifferent (s .clients id .kind))) cs (running s) (accepted t) (λ n. refl) e
+
+  -- the client at an id after one client was put
+  put-indifferent : (other : ℕ) (c : Client) → isIndifferent (put (s .clients) other c id .kind) ≡ cond (eqb other id) (isIndifferent (c .kind)) (isIndifferent (s .clients id .kind))
+  unfolding put
+  put-indifferent other c = rw (eqb-comm other id) (go (eqb id other))
+    where
+      go : (b : Bool) → isIndifferent ((cond b c (s .clients id)) .kind) ≡ cond b (isIndifferent (c .kind)) (isIndifferent (s .clients id .kind))
+      go true = refl
+      go false = refl
+
+  -- a client put in place of one of its kind
+  put-kind : (other : ℕ) (c : Client) → c .kind ≡ s .clients other .kind → put (s .clients) other c id .kind ≡ s .clients id .kind
+  unfolding put
+  put-kind other c e = go (eqb id other) refl
+    where
+      go : (b : Bool) → eqb id other ≡ b → (cond b c (s .clients id)) .kind ≡ s .clients id .kind
+      go true q = e ∙ ap (λ (j : ℕ). s .clients j .kind) (sym (eqb-true id other q))
+      go false q = refl
+
+  changed-indifferent : (c : Client) (type rate burst : ℕ) → isIndifferent (changed c type rate burst .kind) ≡ eqb type indifferentType
+  unfolding changed retuned joining
+  changed-indifferent c type rate burst = go (sameKind (c .kind) (kindOf type)) refl ∙ kindOf-indifferent type
+    where
+      go : (b : Bool) → sameKind (c .kind) (kindOf type) ≡ b
+          → isIndifferent ((cond b (retuned c rate burst) (joining type rate burst)) .kind) ≡ isIndifferent (kindOf type)
+      go true e = sameKind-indifferent (c .kind) (kindOf type) e
+      go false e = refl
+
+  tick-kind : slotted s (turn s) .clients id .kind ≡ s .clients id .kind
+  unfolding slotted refillAll refilled clientsAfter spent
+  tick-kind = go (turn s .rule)
+    where
+      go : (r : Rule) → clientsAfter r (turn s .id) (s .clients) id .kind ≡ s .clients id .kind
+      go rule1 = put-kind (turn s .id) (spent (s .clients (turn s .id))) refl
+      go rule2 = put-kind (turn s .id) (spent (s .clients (turn s .id))) refl
+      go rule3 = refl
+
+  told-running : (c : Call) → Told id c (isIndifferent (s .clients id .kind)) (step (running s) c)
+  unfolding step onOpen onJoin onChange onLeave onLoad onArrive onTick updated indifferentBy joining loaded queued fresh
+      holdsIndifferent clientOf isAccepted
+  told-running (Open t d v) = told-checked (Open t d v) (openChecks t d v) (fresh t d v) refl
+  told-running (Join j k r b) =
+      told-checked (Join j k r b) (joinChecks s j k r b) (updated s j (joining k r b) (s .order))
+      (put-indifferent j (joining k r b) ∙ rw (kindOf-indifferent k))
+  told-running (Change j k r b) =
+      told-checked (Change j k r b) (changeChecks s j k r b) (updated s j (changed (s .clients j) k r b) (orderAfterChange s j k))
+      (put-indifferent j (changed (s .clients j) k r b) ∙ rw (changed-indifferent (s .clients j) k r b))
+  told-running (Leave j) =
+      told-checked (Leave j) (leaveChecks s j) (updated s j nobody (without j (s .order))) (put-indifferent j nobody)
+  told-running (Load j n) =
+      told-checked (Load j n) (loadChecks s j n) (updated s j (loaded (s .clients j) n) (s .order))
+      (ap isIndifferent (put-kind j (loaded (s .clients j) n) refl))
+  told-running (Arrive j p) =
+      told-checked (Arrive j p) (arriveChecks s j p) (updated s j (queued (s .clients j) p) (orderAfterArrival s j))
+      (ap isIndifferent (put-kind j (queued (s .clients j) p) refl))
+  told-running Tick = ap isIndifferent tick-kind
+
+told : (id : ℕ) (core : Core) (c : Call) → Told id c (holdsIndifferent id core) (step core c)
+unfolding holdsIndifferent clientOf step onOpen isAccepted fresh indifferentBy
+told id (running s) c = told-running id s c
+told id unopened (Open t d v) =
+    checked-elim (Told id (Open t d v) false) (openChecks t d v) unopened (accepted (fresh t d v)) (λ n. refl) refl
+told id unopened (Join j k r b) = refl
+told id unopened (Change j k r b) = refl
+told id unopened (Leave j) = refl
+told id unopened (Load j n) = refl
+told id unopened (Arrive j p) = refl
+told id unopened Tick = refl
+
+pub indifferent-held : (id : ℕ) (h : History) → indifferentAt scheduler id h ≡ holdsIndifferent id (after scheduler h)
+unfolding indifferentAt after answerAt holdsIndifferent clientOf
+indifferent-held id start = refl
+indifferent-held id (h then c) = rw (indifferent-held id h) (sym (told id (after scheduler h) c))

@@ -1,0 +1,248 @@
+-- Demand 3, `Sameness scheduler`: each thing that it compares is logged alike, or is read off what is not erased.
+-- Assumes nothing.
+use Prim.Native.Nat.{ℕ, zero, suc, _≤_, _<_}
+use native.Mathlib.Omega.{arith}
+use native.Mathlib.Nat.{le-refl}
+use mathlib.Core.Path.{_≡_, refl, sym, ap, ap₂, _∙_, subst}
+use mathlib.Core.Logic.{_⊎_, inl, inr}
+use mathlib.Core.Bool.{Bool, true, false, cond, not, _&&_, _||_}
+use mathlib.Core.List.{List, [], _∷_}
+use lib.Dec.{T, eqb}
+use borrow.Author.Tests.{eqb-true, not-true}
+use Rattle.definitions.specs.declared.Call.{Call}
+use Rattle.definitions.specs.declared.Call.the-variants.{Open, Join, Change, Leave, Load, Arrive, Tick}
+use Rattle.definitions.specs.declared.Answer.{Answer}
+use Rattle.definitions.specs.Client.{Client, isIndifferent}
+use Rattle.definitions.specs.State.{State, Core, unopened, running}
+use Rattle.definitions.specs.Answers.{number, isDeparture}
+use Rattle.definitions.specs.Checks.{Result}
+use Rattle.definitions.specs.Tick.{Turn, turn}
+use Rattle.definitions.specs.Core.{step}
+use Rattle.definitions.specs.History.{History, start, _then_, Place, end, before, calls, Pick, pickBy, pickOf, clientOf, scheduler}
+use Rattle.definitions.specs.Sameness.{isSetting, isTick, isArrival, names, after, answerAt, indifferentAt, isStruck, kept, log, departure, drop, SameDealings, SameHoldings, LooksSame, Sameness}
+use Rattle.definitions.proofs.Laws.{T-true, true-false, and-left, and-right, and-true, and-false, eqb-same}
+use Rattle.definitions.proofs.Sameness.Erase.{hidden, hide, hide-open, erase, eraseCore}
+use Rattle.definitions.proofs.Sameness.Slot.{turn-erased, tick-departure, tick-answer}
+use Rattle.definitions.proofs.Sameness.Kinds.{holdsIndifferent, indifferent-held}
+use Rattle.definitions.proofs.Sameness.Histories.{AlikeAt, alike-indifferent, alike-answer, alike-pick, alike-departure, alike-departed, alike-client, hidden-not, alike-through, Logged, log-same}
+
+-- ---- places
+
+place-calls : {h whole : History} → Place h whole → calls h ≤ calls whole
+unfolding calls
+place-calls {h} end = le-refl (calls h)
+place-calls (before p) = let h = place-calls p in omega arith
+
+-- two places of one history with as many calls behind them are one
+place-unique : {h k whole : History} → Place h whole → Place k whole → calls h ≡ calls k → h ≡ k
+unfolding calls
+place-unique end end e = refl
+place-unique end (before q) e = absurd (let l = place-calls q in omega arith)
+place-unique (before p) end e = absurd (let l = place-calls p in omega arith)
+place-unique (before p) (before q) e = place-unique p q e
+
+module _ (chosen : ℕ) where
+  -- the kept calls behind a place are behind a place of the kept calls
+  place-kept : {h whole : History} → Place h whole → Place (kept scheduler chosen h) (kept scheduler chosen whole)
+  unfolding kept
+  place-kept end = end
+  place-kept (before {whole} {c} p) = go (isStruck scheduler chosen whole c) (place-kept p)
+    where
+      go : {h′ : History} (b : Bool) → Place h′ (kept scheduler chosen whole) → Place h′ (cond b (kept scheduler chosen whole) (kept scheduler chosen whole then c))
+      go true q = q
+      go false q = before q
+
+  -- ---- a client that is watched where it is the chosen one or indifferent
+
+  not-tick-struck : (h : History) (c : Call) → isStruck scheduler chosen h c ≡ true → isTick c ≡ false
+  unfolding isStruck isTick
+  not-tick-struck h (Open t d v) e = refl
+  not-tick-struck h (Join j k r b) e = refl
+  not-tick-struck h (Change j k r b) e = refl
+  not-tick-struck h (Leave j) e = refl
+  not-tick-struck h (Load j n) e = refl
+  not-tick-struck h (Arrive j p) e = refl
+  not-tick-struck h Tick e = sym e
+
+  not-tick-setting : (c : Call) → isSetting c ≡ true → isTick c ≡ false
+  unfolding isSetting isTick
+  not-tick-setting (Open t d v) e = refl
+  not-tick-setting (Join j k r b) e = refl
+  not-tick-setting (Change j k r b) e = refl
+  not-tick-setting (Leave j) e = refl
+  not-tick-setting (Load j n) e = refl
+  not-tick-setting (Arrive j p) e = refl
+  not-tick-setting Tick e = sym e
+
+  module _ (id : ℕ) where
+    not-tick-named : (c : Call) → names id c ≡ true → isTick c ≡ false
+    unfolding names isTick
+    not-tick-named (Open t d v) e = refl
+    not-tick-named (Join j k r b) e = refl
+    not-tick-named (Change j k r b) e = refl
+    not-tick-named (Leave j) e = refl
+    not-tick-named (Load j n) e = refl
+    not-tick-named (Arrive j p) e = refl
+    not-tick-named Tick e = sym e
+
+    -- the chosen client, or one that is indifferent there
+    abbrev Watched : History → Type 0
+    Watched h = not (eqb id chosen) && not (indifferentAt scheduler id h) ≡ false
+
+    other : (h : History) (j : ℕ) → Watched h → not (eqb j chosen) && not (indifferentAt scheduler j h) ≡ true → eqb j id ≡ false
+    other h j w e = go (eqb j id) refl
+      where
+        go : (b : Bool) → eqb j id ≡ b → b ≡ false
+        go true q = true-false (rw (eqb-true j id q) at e) w
+        go false q = refl
+
+    -- a struck-out call does not name it
+    struck-names : (h : History) (c : Call) → Watched h → isStruck scheduler chosen h c ≡ true → names id c ≡ false
+    unfolding isStruck names
+    struck-names h (Open t d v) w e = refl
+    struck-names h (Join j k r b) w e = true-false e refl
+    struck-names h (Change j k r b) w e = true-false e refl
+    struck-names h (Leave j) w e = true-false e refl
+    struck-names h (Load j n) w e = other h j w e
+    struck-names h (Arrive j p) w e = other h j w e
+    struck-names h Tick w e = refl
+
+    module _ (when : History → Bool) (steady : (h k : History) → AlikeAt chosen h k → when h ≡ when k)
+        (watched : (h : History) → when h ≡ true → Watched h) where
+      -- a struck-out call is not logged where it would have to name the client
+      not-named : (h : History) (c : Call) (more : Bool) → isStruck scheduler chosen h c ≡ true → when h && (names id c && more) ≡ false
+      not-named h c more e = go (when h) refl
+        where
+          go : (b : Bool) → when h ≡ b → b && (names id c && more) ≡ false
+          go true w = rw (struck-names h c (watched h w) e)
+          go false w = refl
+
+      seen : (h : History) → when h ≡ true → hidden chosen id (clientOf (after scheduler h) id) ≡ false
+      unfolding holdsIndifferent
+      seen h w = hidden-not chosen id (clientOf (after scheduler h) id) (rw (indifferent-held id h) at (watched h w))
+
+      answers-logged : Logged chosen (λ p c. when p && names id c) (answerAt scheduler)
+      answers-logged = record {
+        struckOut = λ h c e. ap (λ (b : Bool). when h && b) (sym (and-true (names id c))) ∙ not-named h c true e;
+        which-alike = λ {h} {k} a c e. ap (λ (b : Bool). b && names id c) (steady h k a);
+        shows-alike = λ {h} {k} a c e w. alike-answer chosen a c e (not-tick-named c (and-right (when h) (names id c) w));
+      }
+
+      departures-logged : Logged chosen (λ p c. when p && departure scheduler id p c) (answerAt scheduler)
+      unfolding departure isTick
+      departures-logged = record {
+        struckOut = λ h c e. rw (not-tick-struck h c e) (and-false (when h));
+        which-alike = λ {h} {k} a c e. ap₂ _&&_ (steady h k a) (departs h k a c);
+        shows-alike = λ {h} {k} a c e w. departed h k a c w;
+      }
+        where
+          departs : (h k : History) → AlikeAt chosen h k → (c : Call)
+              → isTick c && isDeparture id (answerAt scheduler h c) ≡ isTick c && isDeparture id (answerAt scheduler k c)
+          departs h k a (Open t d v) = refl
+          departs h k a (Join j kind r b) = refl
+          departs h k a (Change j kind r b) = refl
+          departs h k a (Leave j) = refl
+          departs h k a (Load j n) = refl
+          departs h k a (Arrive j p) = refl
+          departs h k a Tick = alike-departure chosen a id
+
+          departed : (h k : History) → AlikeAt chosen h k → (c : Call) → when h && (isTick c && isDeparture id (answerAt scheduler h c)) ≡ true
+              → answerAt scheduler h c ≡ answerAt scheduler k c
+          departed h k a (Open t d v) w = true-false (and-right (when h) false w) refl
+          departed h k a (Join j kind r b) w = true-false (and-right (when h) false w) refl
+          departed h k a (Change j kind r b) w = true-false (and-right (when h) false w) refl
+          departed h k a (Leave j) w = true-false (and-right (when h) false w) refl
+          departed h k a (Load j n) w = true-false (and-right (when h) false w) refl
+          departed h k a (Arrive j p) w = true-false (and-right (when h) false w) refl
+          departed h k a Tick w =
+              alike-departed chosen a id (seen h (and-left (when h) (isDeparture id (answerAt scheduler h Tick)) w))
+              (and-right (when h) (isDeparture id (answerAt scheduler h Tick)) w)
+
+      -- an arrival that was dropped
+      dropped : History → Call → Bool
+      dropped h c = isArrival c && (eqb (number (answerAt scheduler h c)) 14 || eqb (number (answerAt scheduler h c)) 15)
+
+      drops-logged : Logged chosen (λ p c. when p && drop scheduler id p c) (answerAt scheduler)
+      unfolding drop dropped
+      drops-logged = record {
+        struckOut = λ h c e. not-named h c (dropped h c) e;
+        which-alike = λ {h} {k} a c e. ap₂ _&&_ (steady h k a) (same h k a c e (names id c) refl);
+        shows-alike = λ {h} {k} a c e w.
+            alike-answer chosen a c e (not-tick-named c (and-left (names id c) (dropped h c) (and-right (when h) (names id c && dropped h c) w)));
+      }
+        where
+          same : (h k : History) → AlikeAt chosen h k → (c : Call) → isStruck scheduler chosen h c ≡ false → (b : Bool) → names id c ≡ b
+              → b && dropped h c ≡ b && dropped k c
+          same h k a c e true n =
+              ap (λ (x : Answer). isArrival c && (eqb (number x) 14 || eqb (number x) 15)) (alike-answer chosen a c e (not-tick-named c n))
+          same h k a c e false n = refl
+
+      dealings-same : (h k : History) → kept scheduler chosen h ≡ kept scheduler chosen k → SameDealings scheduler chosen id when h k
+      dealings-same h k e = record {
+        answers = log-same chosen (λ p c. when p && names id c) (answerAt scheduler) answers-logged h k e;
+        departures = log-same chosen (λ p c. when p && departure scheduler id p c) (answerAt scheduler) departures-logged h k e;
+        drops = log-same chosen (λ p c. when p && drop scheduler id p c) (answerAt scheduler) drops-logged h k e;
+      }
+
+    holdings-same : (h k : History) → AlikeAt chosen h k → Watched h → SameHoldings scheduler id h k
+    unfolding holdsIndifferent
+    holdings-same h k a w = record {
+      queue = ap (λ (c : Client). c .queue) same;
+      pool = ap (λ (c : Client). c .pool) same;
+      level = ap (λ (c : Client). c .level) same;
+    }
+      where
+        same : clientOf (after scheduler h) id ≡ clientOf (after scheduler k) id
+        same = alike-client chosen a id (hidden-not chosen id (clientOf (after scheduler h) id) (rw (indifferent-held id h) at w))
+
+  -- ---- the settings and the slots
+
+  settings-logged : Logged chosen (λ p c. isSetting c) (answerAt scheduler)
+  unfolding isSetting isStruck
+  settings-logged = record {
+    struckOut = not-setting;
+    which-alike = λ a c e. refl;
+    shows-alike = λ a c e w. alike-answer chosen a c e (not-tick-setting c w);
+  }
+    where
+      not-setting : (h : History) (c : Call) → isStruck scheduler chosen h c ≡ true → isSetting c ≡ false
+      not-setting h (Open t d v) e = sym e
+      not-setting h (Join j k r b) e = sym e
+      not-setting h (Change j k r b) e = sym e
+      not-setting h (Leave j) e = sym e
+      not-setting h (Load j n) e = refl
+      not-setting h (Arrive j p) e = refl
+      not-setting h Tick e = refl
+
+  slots-logged : Logged chosen (λ p c. isTick c) (λ p c. pickOf (after scheduler p))
+  slots-logged = record {
+    struckOut = not-tick-struck;
+    which-alike = λ a c e. refl;
+    shows-alike = λ a c e w. alike-pick chosen a;
+  }
+
+  -- ---- all of it, at two places with the same kept calls behind them
+
+  looks-same : (h k : History) → kept scheduler chosen h ≡ kept scheduler chosen k → LooksSame scheduler chosen h k
+  looks-same h k e = record {
+    settings = log-same chosen (λ p c. isSetting c) (answerAt scheduler) settings-logged h k e;
+    slots = log-same chosen (λ p c. isTick c) (λ p c. pickOf (after scheduler p)) slots-logged h k e;
+    chosenDealings = dealings-same chosen (λ p. true) (λ p q a. refl) (λ p w. own p) h k e;
+    chosenHoldings = holdings-same chosen h k alike (own h);
+    indifferentAlike = alike-indifferent chosen alike;
+    indifferentDealings = λ id. dealings-same id (indifferentAt scheduler id) (λ p q a. alike-indifferent chosen a id) (indifferently id) h k e;
+    indifferentHoldings = λ id w. holdings-same id h k alike (indifferently id h (T-true w));
+  }
+    where
+      alike : AlikeAt chosen h k
+      alike = alike-through chosen h k e
+
+      own : (p : History) → Watched chosen p
+      own p = rw (eqb-same chosen)
+
+      indifferently : (id : ℕ) (p : History) → indifferentAt scheduler id p ≡ true → Watched id p
+      indifferently id p w = rw w (and-false (not (eqb id chosen)))
+
+pub sameness : Sameness scheduler
+unfolding Sameness
+sameness chosen H K e h k p q n = looks-same chosen h k (place-unique (place-kept chosen p) (rw (sym e) at (place-kept chosen q)) n)
