@@ -1,22 +1,21 @@
--- Laws of the definitions that every proof above them uses: what a test decides, what `checked` can give, what `put` holds.
--- They are by cases on the test, or by induction on the checks. Assumes nothing.
-use Prim.Native.Nat.{ℕ, zero, suc, _+_}
+-- Laws of the definitions that the proofs above them cite: what a test decides, what a checked call gives, what `put` holds,
+-- what a client keeps. Each holds by going through the cases of a test, or by induction on the checks. Assumes nothing.
+use Prim.Native.Nat.{ℕ}
 use mathlib.Core.Path.{_≡_, refl, sym, ap, _∙_}
-use mathlib.Core.Logic.{_⊎_, inl, inr}
-use mathlib.Core.Bool.{Bool, true, false, cond, not, _&&_, true≢false}
+use mathlib.Core.Logic.{_≢_, _⊎_, inl, inr, ⊎-elim}
+use mathlib.Core.Bool.{Bool, true, false, cond, _&&_, true≢false}
 use mathlib.Core.List.{List, [], _∷_}
+use native.Mathlib.Omega.{arith}
 use lib.Dec.{T, eqb}
 use borrow.Author.Tests.{eqb-true, eqb-false, eq-eqb, ne-eqb}
-use Rattle.definitions.specs.Client.{Client}
-use Rattle.definitions.specs.State.{Core, put}
-use Rattle.definitions.specs.Checks.{Result, Check, refused, checked}
+use Rattle.definitions.specs.declared.Answer.{Answer}
+use Rattle.definitions.specs.declared.Answer.the-variants.{Accepted, Refused}
+use Rattle.definitions.specs.Client.{Kind, absent, indifferent, private, sameKind, Client, spent}
+use Rattle.definitions.specs.State.{State, Core, put}
+use Rattle.definitions.specs.Checks.{Result, Check, accepted, refused, checked}
+use Rattle.definitions.specs.Tick.{Rule, rule1, rule2, rule3, clientsAfter}
 
 -- ---- tests
-
--- a test with its outcome as an equation, so that a proof can go by cases on it
-pub decided : (b : Bool) → (b ≡ true) ⊎ (b ≡ false)
-decided true = inl refl
-decided false = inr refl
 
 pub T-true : {b : Bool} → T b → b ≡ true
 T-true {b} = go b
@@ -79,22 +78,80 @@ checked-rel R (c ∷ cs) b b′ d d′ r e = go (c .passed) (checked-rel R cs b 
     go true rest = rest
     go false rest = r (c .number)
 
+module _ (before : Core) (done : Result) where
+  -- a checked call gives what was to be done, or a refusal with the core before
+  pub checked-cases : (cs : List Check)
+      → (checked cs before done ≡ done) ⊎ ((n : ℕ) × (checked cs before done ≡ refused n before))
+  unfolding checked
+  checked-cases [] = inl refl
+  checked-cases (c ∷ cs) = go (c .passed) (checked-cases cs)
+    where
+      go : (b : Bool) → (checked cs before done ≡ done) ⊎ ((n : ℕ) × (checked cs before done ≡ refused n before))
+          → (cond b (checked cs before done) (refused (c .number) before) ≡ done)
+          ⊎ ((n : ℕ) × (cond b (checked cs before done) (refused (c .number) before) ≡ refused n before))
+      go true h = h
+      go false h = inr (c .number, refl)
+
+module _ (cs : List Check) (before : Core) (s : State) where
+  -- a checked call that is accepted has the core that was to be made
+  pub checked-accepted : checked cs before (accepted s) .answer ≡ Accepted → checked cs before (accepted s) ≡ accepted s
+  checked-accepted e = ⊎-elim (λ d. d) (λ r. cc (r .1)) (checked-cases before (accepted s) cs)
+
+  -- and one that is not keeps the core
+  pub checked-kept : checked cs before (accepted s) .answer ≢ Accepted → checked cs before (accepted s) .core ≡ before
+  checked-kept n =
+      ⊎-elim (λ d. absurd (n (ap (λ (r : Result). r .answer) d))) (λ r. ap (λ (r : Result). r .core) (r .1))
+      (checked-cases before (accepted s) cs)
+
+-- a refusal is not an acceptance
+pub refused-differs : {a : Answer} {n : ℕ} → a ≡ Refused n → a ≢ Accepted
+refused-differs e d = let z : _≡_ {A = ℕ} 0 1 = cc in omega arith
+
 -- ---- what `put` holds
 
-pub put-same : (clients : ℕ → Client) (id : ℕ) (c : Client) → put clients id c id ≡ c
+-- the client that is put stands at its id
+pub put-at : (clients : ℕ → Client) (id : ℕ) (c : Client) → put clients id c id ≡ c
 unfolding put
-put-same clients id c = rw (eqb-same id)
+put-at clients id c = rw (eq-eqb id id refl)
 
-pub put-other : (clients : ℕ → Client) (id : ℕ) (c : Client) (other : ℕ) → eqb other id ≡ false → put clients id c other ≡ clients other
+-- what a client has in common with the one in whose place it is put stays as it was at every id
+pub put-keeps {ℓ} : {A : Type ℓ} (f : Client → A) (clients : ℕ → Client) (id : ℕ) (c : Client)
+    → f c ≡ f (clients id)
+    → (other : ℕ)
+    → f (put clients id c other) ≡ f (clients other)
 unfolding put
-put-other clients id c other e = rw e
-
--- what holds of the new client, and of the old ones at the other ids, holds of all
-pub put-elim {ℓ} : (P : ℕ → Client → Type ℓ) (clients : ℕ → Client) (id : ℕ) (c : Client)
-    → P id c → ((other : ℕ) → eqb other id ≡ false → P other (clients other)) → (other : ℕ) → P other (put clients id c other)
-unfolding put
-put-elim P clients id c new old other = go (eqb other id) refl
+put-keeps f clients id c same other = go (eqb other id) refl
   where
-    go : (b : Bool) → eqb other id ≡ b → P other (cond b c (clients other))
-    go true e = rw (eqb-true other id e) new
-    go false e = old other e
+    go : (b : Bool) → eqb other id ≡ b → f (cond b c (clients other)) ≡ f (clients other)
+    go true e = same ∙ ap (λ (i : ℕ). f (clients i)) (sym (eqb-true other id e))
+    go false e = refl
+
+-- ---- what a client keeps
+
+-- what a client keeps when it sends stays as it was at every id, whoever sends
+pub sent-keeps {ℓ} : {A : Type ℓ} (f : Client → A)
+    → ((c : Client) → f (spent c) ≡ f c)
+    → (rule : Rule) (id : ℕ) (clients : ℕ → Client) (other : ℕ)
+    → f (clientsAfter rule id clients other) ≡ f (clients other)
+unfolding clientsAfter
+sent-keeps f same rule1 id clients other = put-keeps f clients id (spent (clients id)) (same (clients id)) other
+sent-keeps f same rule2 id clients other = put-keeps f clients id (spent (clients id)) (same (clients id)) other
+sent-keeps f same rule3 id clients other = refl
+
+-- ---- kinds
+
+pub sameKind-refl : (k : Kind) → sameKind k k ≡ true
+sameKind-refl absent = refl
+sameKind-refl indifferent = refl
+sameKind-refl private = refl
+
+pub sameKind-false : (k l : Kind) → k ≢ l → sameKind k l ≡ false
+sameKind-false absent absent n = absurd (n refl)
+sameKind-false absent indifferent n = refl
+sameKind-false absent private n = refl
+sameKind-false indifferent absent n = refl
+sameKind-false indifferent indifferent n = absurd (n refl)
+sameKind-false indifferent private n = refl
+sameKind-false private absent n = refl
+sameKind-false private indifferent n = refl
+sameKind-false private private n = absurd (n refl)

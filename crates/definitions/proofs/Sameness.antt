@@ -4,3 +4,4 @@ pub mod Slot
 pub mod Kinds
 pub mod Histories
 pub mod Theorem
+pub mod Leaks

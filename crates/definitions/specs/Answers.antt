@@ -23,6 +23,31 @@ number Accepted = 0
 number (Refused n) = n
 number (Slot outcome) = 0
 
+-- the words of the four outcomes, as numbers that no check has
+abbrev pub real : ℕ
+real = 101
+
+abbrev pub dummy : ℕ
+dummy = 102
+
+abbrev pub idle : ℕ
+idle = 103
+
+abbrev pub none : ℕ
+none = 104
+
+unfoldable pub word : Outcome → ℕ
+word (Real id p padding) = real
+word (Dummy id) = dummy
+word (Idle id) = idle
+word None = none
+
+-- all that an answer says: its number or, of a slot, the outcome's word and values
+unfoldable pub shown : Answer → List ℕ
+shown Accepted = number Accepted ∷ []
+shown (Refused n) = number (Refused n) ∷ []
+shown (Slot outcome) = word outcome ∷ values outcome
+
 unfoldable pub isAccepted : Answer → Bool
 isAccepted Accepted = true
 isAccepted (Refused n) = false

@@ -47,6 +47,10 @@ unfoldable pub clientOf : Core → ℕ → Client
 clientOf unopened id = nobody
 clientOf (running s) id = s .clients id
 
+unfoldable pub generatorOf : Core → ℕ
+generatorOf unopened = 0
+generatorOf (running s) = s .generator
+
 abbrev pub pickBy : Rule → ℕ → Pick
 pickBy rule1 id = byRule1
 pickBy rule2 id = byRule2 id
