@@ -2,7 +2,7 @@
 -- A case is what the definitions give, beside what the paper says. A further case is one more entry of the list.
 use Prim.Native.Nat.{ℕ, zero, suc}
 use mathlib.Core.Path.{_≡_}
-use mathlib.Core.List.{List, [], _∷_, _++_, map}
+use mathlib.Core.List.{List, [], _∷_, _++_, List·Memᴰ}
 use lib.ListN.{length, replicate, take}
 use Rattle.definitions.specs.declared.Call.{Call}
 use Rattle.definitions.specs.declared.Call.the-variants.{Open, Join, Change, Load, Arrive, Tick}
@@ -23,9 +23,9 @@ infix 3 _gives_
 abbrev pub _gives_ : List ℕ → List ℕ → Case
 _gives_ given wanted = record { given = given; wanted = wanted }
 
--- the claim of a table: entry by entry, what is given is what is wanted
+-- the claim of a table: in each of its entries, what is given is what is wanted
 abbrev pub Holds : List Case → Type 0
-Holds table = map (λ (c : Case). c .given) table ≡ map (λ (c : Case). c .wanted) table
+Holds table = (c : Case) → List·Memᴰ c table → c .given ≡ c .wanted
 
 -- the core after some calls
 unfoldable pub ran : Core → List Call → Core
