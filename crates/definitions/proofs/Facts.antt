@@ -22,11 +22,13 @@ use Rattle.definitions.specs.State.{State, Core, unopened, running}
 use Rattle.definitions.specs.Answers.{bears, isDeparture}
 use Rattle.definitions.specs.Checks.{Check, accepted, refused, checked, within, rates, burstFits, openChecks, termChecks, joinChecks, activeChecks, changeChecks, leaveChecks, loadChecks, arriveChecks}
 use Rattle.definitions.specs.Calls.{onOpen, updated, onJoin, onChange, onLeave, onLoad, onArrive}
-use Rattle.definitions.specs.Tick.{rule1, rule2, rule3, ruleOf, privateRate, firstTurn, turnBy, turn, withoutPacket, sentFrom, sent, outcomeBy, refillAll, slotted, onTick}
+use Rattle.definitions.specs.Tick.{rule1, rule2, rule3, ruleOf, privateRate, firstTurn, turnBy, turn, outcomeBy, refillAll, slotted, onTick}
 use Rattle.definitions.specs.Core.{whenOpened, step}
 use Rattle.definitions.specs.History.{clientOf, generatorOf}
 use Rattle.definitions.specs.Bound.{isOpen}
-use Rattle.definitions.proofs.Laws.{checked-accepted, checked-kept, refused-differs, put-at, sent-keeps, sameKind-refl, sameKind-false}
+use Rattle.definitions.proofs.Laws.Checked.{checked-accepted, checked-kept, refused-differs}
+use Rattle.definitions.proofs.Laws.Rules.{sent-bears}
+use Rattle.definitions.proofs.Laws.Clients.{put-same, sent-keeps, sameKind-refl, sameKind-false}
 
 module _ (s : State) where
   -- a slot by rule 1, first come first served, leaves the generator as it is
@@ -68,23 +70,10 @@ pub tick-rule2-alike : (s t : State)
     → turn s .id ≡ turn t .id
 tick-rule2-alike s t r q g same = cc (tick-rule2-id s r, tick-rule2-id t q, fun-ext same)
 
--- what a client sends bears its id
-sent-bears : (id : ℕ) (c : Client) → T (bears id (sent id c))
-unfolding bears sent
-sent-bears id c = from (c .queue)
-  where
-    lacking : (pool : ℕ) → T (bears id (withoutPacket id pool))
-    lacking zero = eqb-refl id
-    lacking (suc pool) = eqb-refl id
-
-    from : (q : List Packet) → T (bears id (sentFrom id c q))
-    from [] = lacking (c .pool)
-    from (p ∷ ps) = eqb-refl id
-
 -- rule 2 hands the slot on to nobody: its outcome bears the id drawn
 pub tick-rule2-bears : (s : State) → ruleOf (s .clients) ≡ rule2 → T (isDeparture (turn s .id) (onTick s .answer))
 unfolding isDeparture onTick turn turnBy outcomeBy
-tick-rule2-bears s r = rw r (sent-bears _ _)
+tick-rule2-bears s r = rw (r, sent-bears) (eqb-refl (turnBy rule2 s .id))
 
 module _ (s : State) (id : ℕ) where
   -- after any tick, whoever was picked, the bucket of every id is that of before, refilled
@@ -125,7 +114,7 @@ module _ (s : State) (id type rate burst : ℕ) (ok : onChange s id type rate bu
   -- an accepted change makes of its client what `changed` says
   pub change-client : clientOf (onChange s id type rate burst .core) id ≡ changed (s .clients id) type rate burst
   unfolding onChange clientOf updated
-  change-client = rw (checked-accepted (changeChecks s id type rate burst) (running s) _ ok) (put-at (s .clients) id _)
+  change-client = rw (checked-accepted (changeChecks s id type rate burst) (running s) _ ok) (put-same (s .clients) id _)
 
   -- so of an accepted change too: the type stays, or it differs
   pub change-keeps : s .clients id .kind ≡ kindOf type

@@ -1,5 +1,13 @@
+-- The proofs over the definitions. A reader of what is claimed needs none of them.
+
+-- laws of the definitions, cited by all that follows
 pub mod Laws
+pub mod Draw
+-- small facts, and the cases of the paper
 pub mod Everything
 pub mod Facts
 pub mod Cases
+-- the claims of all histories
+pub mod Limits
+pub mod Bound
 pub mod Sameness

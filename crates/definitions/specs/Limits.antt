@@ -6,12 +6,17 @@ use mathlib.Core.List.{List, [], _∷_}
 use lib.Dec.{eqb}
 use lib.ListN.{length}
 use Rattle.definitions.specs.declared.Packet.{Packet}
-use Rattle.definitions.specs.Sizes.{ids, places, poolLimit, shares, burstLimit, weightedDraw}
+use Rattle.definitions.specs.Sizes.{ids, places, poolLimit, shares, burstLimit, shortest, longest, weightedDraw}
 use Rattle.definitions.specs.Client.{Kind, absent, indifferent, private, Client, nobody, isIndifferent}
 use Rattle.definitions.specs.State.{State, Core, unopened, running}
 use Rattle.definitions.specs.Checks.{rates}
 use Rattle.definitions.specs.History.{History, scheduler}
 use Rattle.definitions.specs.Sameness.{after}
+
+-- "length outside 64..1518" never waits
+abbrev pub LengthsFit : List Packet → Type 0
+LengthsFit [] = Unit {0}
+LengthsFit (p ∷ ps) = (shortest ≤ p .length) × (p .length ≤ longest) × LengthsFit ps
 
 -- what is so of an active client, of either kind
 pub record ActiveLimits (c : Client) : Type 0 where
@@ -19,6 +24,7 @@ pub record ActiveLimits (c : Client) : Type 0 where
   pub rateHigh : c .rate ≤ shares
   -- "32 for each of the 64 ids"
   pub queueHigh : length (c .queue) ≤ places
+  pub queueLengths : LengthsFit (c .queue)
 
 -- "An indifferent client has a burst, 1 to 64, and a bucket whose level runs from 0 to burst × 1024." It has no dummies.
 pub record IndifferentLimits (c : Client) : Type 0 where

@@ -15,7 +15,8 @@ use Rattle.definitions.specs.Client.{Client, Kind, absent, indifferent, 
 use Rattle.definitions.specs.State.{State, Core, unopened, running, fresh, put, without}
 use Rattle.definitions.specs.Checks.{Result, Check, check, checked, accepted, refused, activeRate, rates, openChecks, termChecks, joinChecks, activeChecks, changeChecks, leaveChecks, loadChecks, arriveChecks}
 use Rattle.definitions.specs.Calls.{onOpen, updated, onJoin, orderAfterChange, onChange, onLeave, onLoad, orderAfterArrival, onArrive}
-use Rattle.definitions.proofs.Laws.{true-false, checked-elim, checked-rel}
+use Rattle.definitions.proofs.Laws.Tests.{true-false}
+use Rattle.definitions.proofs.Laws.Checked.{checked-cases, checked-rel}
 use Rattle.definitions.proofs.Sameness.Erase.{hideIf, hidden, hidden-kind, hide, erase, eraseCore, erase-path, hide-open, hide-step, hide-twice, erase-twice, eraseCore-twice}
 
 -- the same answer, and cores that are erased alike
@@ -173,9 +174,9 @@ module _ (chosen : ℕ) where
         go absent q = ap (eraseCore chosen) (inactive more done (ap isActive q))
         go indifferent q = true-false (ap isIndifferent q) apart
         go private q =
-            checked-elim (λ r. eraseCore chosen (r .core) ≡ eraseCore chosen (running s)) (activeChecks s id more) (running s) done
+            checked-cases (λ r. eraseCore chosen (r .core) ≡ eraseCore chosen (running s)) (activeChecks s id more) (running s) done
             (λ n. refl)
-            (rw (kept apart) (ap running (unseen (rw (q, other)) c e)))
+            (λ passed. rw (kept apart) (ap running (unseen (rw (q, other)) c e)))
 
     pub load-struck : eqb id chosen ≡ false → isIndifferent (s .clients id .kind) ≡ false
         → (dummies : ℕ) → eraseCore chosen (onLoad s id dummies .core) ≡ eraseCore chosen (running s)

@@ -5,7 +5,6 @@ use mathlib.Core.Path.{_≡_, refl, sym, ap, _∙_}
 use mathlib.Core.Bool.{Bool, true, false, cond}
 use mathlib.Core.List.{List}
 use lib.Dec.{eqb}
-use borrow.Author.Tests.{eqb-true}
 use Rattle.definitions.specs.declared.Call.{Call}
 use Rattle.definitions.specs.declared.Call.the-variants.{Open, Join, Change, Leave, Load, Arrive, Tick}
 use Rattle.definitions.specs.Sizes.{indifferentType, privateType}
@@ -14,11 +13,13 @@ use Rattle.definitions.specs.State.{State, Core, unopened, running, fres
 use Rattle.definitions.specs.Answers.{isAccepted}
 use Rattle.definitions.specs.Checks.{Result, Check, checked, accepted, openChecks, joinChecks, changeChecks, leaveChecks, loadChecks, arriveChecks}
 use Rattle.definitions.specs.Calls.{onOpen, updated, onJoin, orderAfterChange, onChange, onLeave, onLoad, orderAfterArrival, onArrive}
-use Rattle.definitions.specs.Tick.{Rule, rule1, rule2, rule3, turn, clientsAfter, refillAll, slotted, onTick}
+use Rattle.definitions.specs.Tick.{turn, refillAll, slotted, onTick}
 use Rattle.definitions.specs.Core.{step}
 use Rattle.definitions.specs.History.{History, start, _then_, clientOf, scheduler}
 use Rattle.definitions.specs.Sameness.{indifferentBy, after, answerAt, indifferentAt}
-use Rattle.definitions.proofs.Laws.{checked-elim, eqb-comm}
+use Rattle.definitions.proofs.Laws.Tests.{eqb-comm}
+use Rattle.definitions.proofs.Laws.Checked.{checked-cases}
+use Rattle.definitions.proofs.Laws.Clients.{put-keeps, sent-keeps, sameKind-true}
 
 kindOf-indifferent : (type : ℕ) → isIndifferent (kindOf type) ≡ eqb type indifferentType
 unfolding kindOf
@@ -28,15 +29,6 @@ kindOf-indifferent type = go (eqb type indifferentType) (eqb type privateType)
     go true b = refl
     go false true = refl
     go false false = refl
-
-sameKind-indifferent : (k l : Kind) → sameKind k l ≡ true → isIndifferent k ≡ isIndifferent l
-sameKind-indifferent absent absent e = refl
-sameKind-indifferent absent indifferent e = e
-sameKind-indifferent absent private e = refl
-sameKind-indifferent indifferent l e = sym e
-sameKind-indifferent private absent e = refl
-sameKind-indifferent private indifferent e = e
-sameKind-indifferent private private e = refl
 
 -- whether an id is indifferent in a core
 unfoldable pub holdsIndifferent : ℕ → Core → Bool
@@ -53,7 +45,7 @@ module _ (id : ℕ) (s : State) where
       → Told id c (isIndifferent (s .clients id .kind)) (checked cs (running s) (accepted t))
   unfolding holdsIndifferent clientOf isAccepted
   told-checked c cs t e =
-      checked-elim (Told id c (isIndifferent (s .clients id .kind))) cs (running s) (accepted t) (λ n. refl) e
+      checked-cases (Told id c (isIndifferent (s .clients id .kind))) cs (running s) (accepted t) (λ n. refl) (λ passed. e)
 
   -- the client at an id after one client was put
   put-indifferent : (other : ℕ) (c : Client) → isIndifferent (put (s .clients) other c id .kind) ≡ cond (eqb other id) (isIndifferent (c .kind)) (isIndifferent (s .clients id .kind))
@@ -64,32 +56,18 @@ module _ (id : ℕ) (s : State) where
       go true = refl
       go false = refl
 
-  -- a client put in place of one of its kind
-  put-kind : (other : ℕ) (c : Client) → c .kind ≡ s .clients other .kind → put (s .clients) other c id .kind ≡ s .clients id .kind
-  unfolding put
-  put-kind other c e = go (eqb id other) refl
-    where
-      go : (b : Bool) → eqb id other ≡ b → (cond b c (s .clients id)) .kind ≡ s .clients id .kind
-      go true q = e ∙ ap (λ (j : ℕ). s .clients j .kind) (sym (eqb-true id other q))
-      go false q = refl
-
   changed-indifferent : (c : Client) (type rate burst : ℕ) → isIndifferent (changed c type rate burst .kind) ≡ eqb type indifferentType
   unfolding changed retuned joining
   changed-indifferent c type rate burst = go (sameKind (c .kind) (kindOf type)) refl ∙ kindOf-indifferent type
     where
       go : (b : Bool) → sameKind (c .kind) (kindOf type) ≡ b
           → isIndifferent ((cond b (retuned c rate burst) (joining type rate burst)) .kind) ≡ isIndifferent (kindOf type)
-      go true e = sameKind-indifferent (c .kind) (kindOf type) e
+      go true e = ap isIndifferent (sameKind-true (c .kind) (kindOf type) e)
       go false e = refl
 
   tick-kind : slotted s (turn s) .clients id .kind ≡ s .clients id .kind
-  unfolding slotted refillAll refilled clientsAfter spent
-  tick-kind = go (turn s .rule)
-    where
-      go : (r : Rule) → clientsAfter r (turn s .id) (s .clients) id .kind ≡ s .clients id .kind
-      go rule1 = put-kind (turn s .id) (spent (s .clients (turn s .id))) refl
-      go rule2 = put-kind (turn s .id) (spent (s .clients (turn s .id))) refl
-      go rule3 = refl
+  unfolding slotted refillAll refilled spent
+  tick-kind = sent-keeps (λ (c : Client). c .kind) (λ c. refl) (turn s .rule) (turn s .id) (s .clients) id
 
   told-running : (c : Call) → Told id c (isIndifferent (s .clients id .kind)) (step (running s) c)
   unfolding step onOpen onJoin onChange onLeave onLoad onArrive onTick updated indifferentBy joining loaded queued fresh
@@ -105,17 +83,17 @@ module _ (id : ℕ) (s : State) where
       told-checked (Leave j) (leaveChecks s j) (updated s j nobody (without j (s .order))) (put-indifferent j nobody)
   told-running (Load j n) =
       told-checked (Load j n) (loadChecks s j n) (updated s j (loaded (s .clients j) n) (s .order))
-      (ap isIndifferent (put-kind j (loaded (s .clients j) n) refl))
+      (ap isIndifferent (put-keeps (λ (c : Client). c .kind) (s .clients) j (loaded (s .clients j) n) refl id))
   told-running (Arrive j p) =
       told-checked (Arrive j p) (arriveChecks s j p) (updated s j (queued (s .clients j) p) (orderAfterArrival s j))
-      (ap isIndifferent (put-kind j (queued (s .clients j) p) refl))
+      (ap isIndifferent (put-keeps (λ (c : Client). c .kind) (s .clients) j (queued (s .clients j) p) refl id))
   told-running Tick = ap isIndifferent tick-kind
 
 told : (id : ℕ) (core : Core) (c : Call) → Told id c (holdsIndifferent id core) (step core c)
 unfolding holdsIndifferent clientOf step onOpen isAccepted fresh indifferentBy
 told id (running s) c = told-running id s c
 told id unopened (Open t d v) =
-    checked-elim (Told id (Open t d v) false) (openChecks t d v) unopened (accepted (fresh t d v)) (λ n. refl) refl
+    checked-cases (Told id (Open t d v) false) (openChecks t d v) unopened (accepted (fresh t d v)) (λ n. refl) (λ passed. refl)
 told id unopened (Join j k r b) = refl
 told id unopened (Change j k r b) = refl
 told id unopened (Leave j) = refl

@@ -17,7 +17,8 @@ use Rattle.definitions.specs.State.{State, Core, running, put, earliest}
 use Rattle.definitions.specs.Answers.{bears, isDeparture}
 use Rattle.definitions.specs.Checks.{Result}
 use Rattle.definitions.specs.Tick.{anyBelow, contends, Rule, rule1, rule2, rule3, ruleOf, contenderRate, privateRate, Turn, byDraw, firstTurn, turnBy, turn, withoutPacket, sentFrom, sent, outcomeBy, clientsAfter, orderAfter, refillAll, slotted, onTick}
-use Rattle.definitions.proofs.Laws.{true-false}
+use Rattle.definitions.proofs.Laws.Tests.{true-false}
+use Rattle.definitions.proofs.Laws.Rules.{sent-bears}
 use Rattle.definitions.proofs.Sameness.Erase.{hideIf, hidden, hide, erase, eraseCore, erase-path, hide-open, hide-step}
 
 module _ (chosen : ℕ) where
@@ -97,19 +98,6 @@ module _ (chosen : ℕ) where
   unfolding slotted erase erased refillAll
   slotted-erased s t =
       erase-path chosen (slotted s t) (slotted (erase chosen s) t) refl refl refl (after-erased (t .rule) (t .id) (s .clients)) refl
-
-  -- an outcome of a client bears its id and no other, whatever it sends
-  sent-bears : (id : ℕ) (c : Client) (j : ℕ) → bears j (sent id c) ≡ eqb id j
-  unfolding sent bears
-  sent-bears id c j = go (c .queue)
-    where
-      dummy : (n : ℕ) → bears j (withoutPacket id n) ≡ eqb id j
-      dummy zero = refl
-      dummy (suc n) = refl
-
-      go : (q : List Packet) → bears j (sentFrom id c q) ≡ eqb id j
-      go [] = dummy (c .pool)
-      go (p ∷ ps) = refl
 
   -- the outcome of the turn on a state and on its erasure: the same, unless the turn is a hidden client's
   outcome-erased : (s : State) (r : Rule) (id : ℕ) → hidden chosen id (s .clients id) ≡ false

@@ -1,0 +1,158 @@
+-- Within the limits a slot by rule 1 sends an indifferent packet, under either discipline, and rule 2 picks a private client.
+-- It holds since the order has a packet where one waits, and since a draw among clients that have rates draws one of them.
+use Prim.Native.Nat.{ℕ, _≤_, _<_}
+use mathlib.Core.Path.{_≡_, refl, ap, subst, _∙_}
+use mathlib.Core.Bool.{Bool, true, false, not, _&&_, false≢true}
+use mathlib.Core.List.{List, [], _∷_}
+use native.Mathlib.Omega.{arith}
+use lib.Dec.{eqb}
+use Rattle.definitions.specs.declared.Packet.{Packet}
+use Rattle.definitions.specs.declared.Outcome.the-variants.{Real}
+use Rattle.definitions.specs.declared.Answer.the-variants.{Slot}
+use Rattle.definitions.specs.Sizes.{ids, firstCome}
+use Rattle.definitions.specs.Draw.{draw}
+use Rattle.definitions.specs.Client.{Kind, absent, indifferent, private, isActive, isIndifferent, isPrivate, Client, empty}
+use Rattle.definitions.specs.State.{State, earliest}
+use Rattle.definitions.specs.Tick.{contends, Rule, rule1, rule2, rule3, ruleOf, contenderRate, privateRate, Turn, firstTurn, turnBy, turn, padding, sent, outcomeBy, onTick}
+use Rattle.definitions.specs.Limits.{standing, ordered, StateLimits}
+use Rattle.definitions.proofs.Laws.Tests.{lt-cases, cond-both}
+use Rattle.definitions.proofs.Laws.Rules.{rule-cases, turn-rule}
+use Rattle.definitions.proofs.Draw.{weighing, draw-among}
+use Rattle.definitions.proofs.Limits.Order.{standing-first-same}
+use Rattle.definitions.proofs.Limits.Client.{Parts, RateBy, limits-parts}
+use Rattle.definitions.proofs.Limits.Slots.{ordered-silent, ordered-high}
+
+-- a client of rule 1: indifferent, with a packet first in its queue
+pub record Contender (c : Client) : Type 0 where
+  pub indifferently : c .kind ≡ indifferent
+  pub packet : Packet
+  pub behind : List Packet
+  pub waiting : c .queue ≡ packet ∷ behind
+
+pub contends-contender : (c : Client) → contends c ≡ true → Contender c
+unfolding contends
+contends-contender c e = go (c .kind) (c .queue) refl refl e
+  where
+    go : (k : Kind) (q : List Packet) → c .kind ≡ k → c .queue ≡ q → (isIndifferent k && not (empty q)) ≡ true → Contender c
+    go absent q f g e = absurd (false≢true e)
+    go indifferent [] f g e = absurd (false≢true e)
+    go indifferent (p ∷ ps) f g e = record { indifferently = f; packet = p; behind = ps; waiting = g }
+    go private q f g e = absurd (false≢true e)
+
+contender-sent : (id : ℕ) (c : Client) (at : Contender c) → sent id c ≡ Real id (at .packet) 0
+unfolding sent padding
+contender-sent id c at = rw (at .waiting, at .indifferently)
+
+contends-ordered : (c : Client) → contends c ≡ true → 0 < ordered c
+unfolding ordered
+contends-ordered c e =
+    let at = contends-contender c e in
+    rw (at .indifferently, at .waiting) (omega arith)
+
+ordered-contends : (c : Client) → 0 < ordered c → contends c ≡ true
+ordered-contends c some = go (contends c) refl
+  where
+    go : (b : Bool) → contends c ≡ b → contends c ≡ true
+    go true e = e
+    go false e = absurd (omega (arith, ordered-silent c e))
+
+-- the client whose slot it is, by each rule
+abbrev pub PickedBy : Rule → State → ℕ → Type 0
+PickedBy rule1 s id = (id < ids) × (contends (s .clients id) ≡ true)
+PickedBy rule2 s id = (id < ids) × (isPrivate (s .clients id .kind) ≡ true)
+PickedBy rule3 s id = Unit {0}
+
+active-rate : (c : Client) → Parts c → isActive (c .kind) ≡ true → 1 ≤ c .rate
+active-rate c parts e = go (c .kind) e (parts .rates)
+  where
+    go : (k : Kind) → isActive k ≡ true → RateBy k (c .rate) → 1 ≤ c .rate
+    go absent f r = absurd (false≢true f)
+    go indifferent f r = r .0
+    go private f r = r .0
+
+private-active : (k : Kind) → isPrivate k ≡ true → isActive k ≡ true
+private-active absent e = e
+private-active indifferent e = refl
+private-active private e = refl
+
+private-kind : (k : Kind) → isPrivate k ≡ true → k ≡ private
+private-kind absent e = absurd (false≢true e)
+private-kind indifferent e = absurd (false≢true e)
+private-kind private e = refl
+
+module _ (s : State) (known : StateLimits s) where
+  rated : (id : ℕ) → isActive (s .clients id .kind) ≡ true → 1 ≤ s .clients id .rate
+  rated id = active-rate (s .clients id) (limits-parts (s .clients id) (known .clientLimits id))
+
+  -- Discipline 0: where an indifferent packet waits, the order has a first, and that one waits.
+  earliest-picked : (id : ℕ) → contends (s .clients id) ≡ true → PickedBy rule1 s (earliest (s .order))
+  unfolding earliest standing
+  earliest-picked id waits = go (s .order) (known .orderWhole)
+    where
+      go : (order : List ℕ) → ((j : ℕ) → standing j order ≡ ordered (s .clients j)) → PickedBy rule1 s (earliest order)
+      go [] whole = absurd (omega (arith, whole id, contends-ordered (s .clients id) waits))
+      go (first ∷ rest) whole =
+          let some : 0 < ordered (s .clients first) = omega (arith, whole first, standing-first-same first first rest refl) in (
+            lt-cases first ids (λ below. below) (λ high. absurd (omega (arith, some, ordered-high s known first high))),
+            ordered-contends (s .clients first) some,
+          )
+
+  -- Discipline 1: a draw among those with a packet waiting.
+  contender-picked : (id : ℕ)
+      → id < ids
+      → contends (s .clients id) ≡ true
+      → PickedBy rule1 s (draw (s .generator) (contenderRate (s .clients)) .id)
+  unfolding contenderRate weighing
+  contender-picked id below waits =
+      let indifferently = contends-contender (s .clients id) waits .indifferently in
+      draw-among (λ j. contends (s .clients j)) (λ j. s .clients j .rate) (s .generator) id below waits
+      (rated id (ap isActive indifferently))
+
+  -- Rule 2: a draw among all private clients.
+  private-picked : (id : ℕ)
+      → id < ids
+      → isPrivate (s .clients id .kind) ≡ true
+      → PickedBy rule2 s (draw (s .generator) (privateRate (s .clients)) .id)
+  unfolding privateRate weighing
+  private-picked id below secret =
+      draw-among (λ j. isPrivate (s .clients j .kind)) (λ j. s .clients j .rate) (s .generator) id below secret
+      (rated id (private-active (s .clients id .kind) secret))
+
+  pub turn-picked : PickedBy (ruleOf (s .clients)) s (turn s .id)
+  unfolding turn turnBy firstTurn
+  turn-picked =
+      rule-cases (λ rule. PickedBy rule s (turnBy rule s .id)) (s .clients)
+      (λ id below waits. cond-both (λ (t : Turn). PickedBy rule1 s (t .id)) (eqb (s .discipline) firstCome)
+      (earliest-picked id waits)
+      (contender-picked id below waits))
+      (λ none id below secret. private-picked id below secret)
+      (λ none noneSecret. tt)
+
+  -- A slot by rule 1 is an indifferent client's, and sends the first packet of its queue, without padding.
+  module _ (e : ruleOf (s .clients) ≡ rule1) where
+    rule1-picked : PickedBy rule1 s (turn s .id)
+    rule1-picked = subst (λ (r : Rule). PickedBy r s (turn s .id)) e turn-picked
+
+    pub rule1-below : turn s .id < ids
+    rule1-below = rule1-picked .0
+
+    pub rule1-contender : Contender (s .clients (turn s .id))
+    rule1-contender = contends-contender (s .clients (turn s .id)) (rule1-picked .1)
+
+    pub rule1-answer : onTick s .answer ≡ Slot (Real (turn s .id) (rule1-contender .packet) 0)
+    unfolding onTick outcomeBy
+    rule1-answer =
+        ap Slot
+        (ap (λ (r : Rule). outcomeBy r (turn s .id) (s .clients)) (turn-rule s ∙ e)
+        ∙ contender-sent (turn s .id) (s .clients (turn s .id)) rule1-contender)
+
+  -- A slot by rule 2 is a private client's.
+  module _ (e : ruleOf (s .clients) ≡ rule2) where
+    rule2-picked : PickedBy rule2 s (turn s .id)
+    rule2-picked = subst (λ (r : Rule). PickedBy r s (turn s .id)) e turn-picked
+
+    pub rule2-below : turn s .id < ids
+    rule2-below = rule2-picked .0
+
+    pub rule2-private : s .clients (turn s .id) .kind ≡ private
+    rule2-private = private-kind (s .clients (turn s .id) .kind) (rule2-picked .1)
