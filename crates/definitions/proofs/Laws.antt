@@ -3,4 +3,5 @@ pub mod Tests
 pub mod Checked
 pub mod Clients
 pub mod Sums
+pub mod Rates
 pub mod Rules

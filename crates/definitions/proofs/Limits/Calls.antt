@@ -18,32 +18,9 @@ use Rattle.definitions.proofs.Laws.Tests.{cond-both, cond-same, within-
 use Rattle.definitions.proofs.Laws.Checked.{Passed, checked-cases}
 use Rattle.definitions.proofs.Laws.Clients.{put-same, put-other, put-cases, sameKind-true}
 use Rattle.definitions.proofs.Laws.Sums.{sumBelow-zero, sumBelow-other}
+use Rattle.definitions.proofs.Laws.Rates.{held, held-high, held-active, rates-put}
 use Rattle.definitions.proofs.Limits.Order.{standing-push-same, standing-push-other, standing-without-same, standing-without-other}
 use Rattle.definitions.proofs.Limits.Client.{Parts, Terms, terms-passed, limits-parts, parts-limits, joining-parts, retuned-parts, loaded-parts, queued-parts}
-
--- Rates.
-
--- the rate that a client holds of the threshold
-held : Client → ℕ
-held c = cond (isActive (c .kind)) (c .rate) 0
-
-held-high : (c : Client) → held c ≤ c .rate
-unfolding held
-held-high c = cond-both (λ (n : ℕ). n ≤ c .rate) (isActive (c .kind)) (omega arith) (omega arith)
-
-held-active : (c : Client) → isActive (c .kind) ≡ true → held c ≡ c .rate
-unfolding held
-held-active c e = rw e
-
--- putting a client in place trades the rate that its id held for its own
-rates-put : (clients : ℕ → Client) (id : ℕ) (c : Client)
-    → id < ids
-    → rates (put clients id c) + held (clients id) ≡ rates clients + held c
-unfolding rates activeRate held
-rates-put clients id c below =
-    sumBelow-other ids id (activeRate (put clients id c)) (activeRate clients) below
-    (λ j other. ap held (put-other clients id c j other))
-    ∙ ap (λ (d : Client). rates clients + held d) (put-same clients id c)
 
 -- What belongs into the order.
 
