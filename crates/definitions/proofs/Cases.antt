@@ -9,7 +9,7 @@ use lib.Dec.{eqb}
 use borrow.Author.Tests.{eqb-true}
 use Rattle.definitions.specs.Cases.{Case, Holds, ran, said, stream, targetAt, waiting, opened, cases, printout}
 use Rattle.definitions.proofs.Everything.{everything}
-use Rattle.definitions.proofs.Laws.Tests.{and-true}
+use Rattle.definitions.proofs.Laws.Tests.{and-both}
 
 sameNumbers : List ℕ → List ℕ → Bool
 sameNumbers [] [] = true
@@ -23,8 +23,8 @@ sameNumbers-true [] [] e = refl
 sameNumbers-true [] (y ∷ ys) e = cc
 sameNumbers-true (x ∷ xs) [] e = cc
 sameNumbers-true (x ∷ xs) (y ∷ ys) e =
-    ap₂ (λ (z : ℕ) (zs : List ℕ). z ∷ zs) (eqb-true x y (and-true (eqb x y) (sameNumbers xs ys) e .0))
-    (sameNumbers-true xs ys (and-true (eqb x y) (sameNumbers xs ys) e .1))
+    ap₂ (λ (z : ℕ) (zs : List ℕ). z ∷ zs) (eqb-true x y (and-both (eqb x y) (sameNumbers xs ys) e .0))
+    (sameNumbers-true xs ys (and-both (eqb x y) (sameNumbers xs ys) e .1))
 
 -- the numbers of the entries that fail, counted from n
 failing : ℕ → List Case → List ℕ

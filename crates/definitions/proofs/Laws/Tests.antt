@@ -48,21 +48,13 @@ pub T-and : (a b : Bool) → T (a && b) → T a × T b
 T-and true b t = (tt, t)
 T-and false b t = absurd t
 
-pub and-true : (a b : Bool) → (a && b) ≡ true → (a ≡ true) × (b ≡ true)
-and-true true b e = (refl, e)
-and-true false b e = true-false e refl
+pub and-both : (a b : Bool) → (a && b) ≡ true → (a ≡ true) × (b ≡ true)
+and-both true b e = (refl, e)
+and-both false b e = true-false e refl
 
 pub or-false : (a b : Bool) → (a || b) ≡ false → (a ≡ false) × (b ≡ false)
 or-false true b e = true-false refl e
 or-false false b e = (refl, e)
-
-pub and-unit : (a : Bool) → a && true ≡ a
-and-unit true = refl
-and-unit false = refl
-
-pub and-zero : (a : Bool) → a && false ≡ false
-and-zero true = refl
-and-zero false = refl
 
 pub eqb-same : (a : ℕ) → eqb a a ≡ true
 eqb-same a = eq-eqb a a refl
@@ -74,5 +66,5 @@ eqb-comm a b =
 pub within-true : (low high x : ℕ) → within low high x ≡ true → (low ≤ x) × (x ≤ high)
 unfolding within
 within-true low high x e =
-    let both = and-true (leb low x) (leb x high) e in
+    let both = and-both (leb low x) (leb x high) e in
     (leb-true low x (both .0), leb-true x high (both .1))

@@ -18,7 +18,7 @@ use Rattle.definitions.specs.Core.{step}
 use Rattle.definitions.specs.History.{History, start, _then_, calls, Pick, pickBy, pickOf, clientOf, scheduler}
 use Rattle.definitions.specs.Sameness.{isTick, after, answerAt, indifferentAt, isStruck, kept, log}
 use borrow.Author.Tests.{not-true}
-use Rattle.definitions.proofs.Laws.Tests.{true-false, and-true}
+use Rattle.definitions.proofs.Laws.Tests.{true-false, and-both}
 use Rattle.definitions.proofs.Sameness.Erase.{hidden, hidden-kind, hideIf, hide, hide-open, erase, eraseCore}
 use Rattle.definitions.proofs.Sameness.Calls.{Alike, open-alike, join-alike, change-alike, leave-alike, load-alike, arrive-alike, load-struck, arrive-struck}
 use Rattle.definitions.proofs.Sameness.Slot.{turn-erased, tick-departure, tick-answer, tick-cores}
@@ -105,9 +105,9 @@ module _ (chosen : ℕ) where
   struck-apart : (h : History) (j : ℕ) → not (eqb j chosen) && not (indifferentAt scheduler j h) ≡ true
       → (eqb j chosen ≡ false) × (holdsIndifferent j (after scheduler h) ≡ false)
   struck-apart h j e = (
-    not-true (eqb j chosen) (and-true (not (eqb j chosen)) (not (indifferentAt scheduler j h)) e .0),
+    not-true (eqb j chosen) (and-both (not (eqb j chosen)) (not (indifferentAt scheduler j h)) e .0),
     sym (indifferent-held j h)
-        ∙ not-true (indifferentAt scheduler j h) (and-true (not (eqb j chosen)) (not (indifferentAt scheduler j h)) e .1),
+        ∙ not-true (indifferentAt scheduler j h) (and-both (not (eqb j chosen)) (not (indifferentAt scheduler j h)) e .1),
   )
 
   -- a struck-out call changes nothing that is not erased

@@ -5,7 +5,7 @@ use native.Mathlib.Omega.{arith}
 use native.Mathlib.Nat.{le-refl}
 use mathlib.Core.Path.{_≡_, refl, sym, ap, ap₂, _∙_, subst}
 use mathlib.Core.Logic.{_⊎_, inl, inr}
-use mathlib.Core.Bool.{Bool, true, false, cond, not, _&&_, _||_}
+use mathlib.Core.Bool.{Bool, true, false, cond, not, _&&_, _||_, and-true, and-false}
 use mathlib.Core.List.{List, [], _∷_}
 use lib.Dec.{T, eqb}
 use borrow.Author.Tests.{eqb-true, not-true}
@@ -20,7 +20,7 @@ use Rattle.definitions.specs.Tick.{Turn, turn}
 use Rattle.definitions.specs.Core.{step}
 use Rattle.definitions.specs.History.{History, start, _then_, Place, end, before, calls, Pick, pickBy, pickOf, clientOf, scheduler}
 use Rattle.definitions.specs.Sameness.{isSetting, isTick, isArrival, names, after, answerAt, indifferentAt, isStruck, kept, log, departure, drop, SameDealings, SameHoldings, LooksSame, Sameness}
-use Rattle.definitions.proofs.Laws.Tests.{T-true, true-false, and-true, and-unit, and-zero, eqb-same}
+use Rattle.definitions.proofs.Laws.Tests.{T-true, true-false, and-both, eqb-same}
 use Rattle.definitions.proofs.Sameness.Erase.{hidden, hide, hide-open, erase, eraseCore}
 use Rattle.definitions.proofs.Sameness.Slot.{turn-erased, tick-departure, tick-answer}
 use Rattle.definitions.proofs.Sameness.Kinds.{holdsIndifferent, indifferent-held}
@@ -123,15 +123,15 @@ module _ (chosen : ℕ) where
 
       answers-logged : Logged chosen (λ p c. when p && names id c) (answerAt scheduler)
       answers-logged = record {
-        struckOut = λ h c e. ap (λ (b : Bool). when h && b) (sym (and-unit (names id c))) ∙ not-named h c true e;
+        struckOut = λ h c e. ap (λ (b : Bool). when h && b) (sym (and-true (names id c))) ∙ not-named h c true e;
         which-alike = λ {h} {k} a c e. ap (λ (b : Bool). b && names id c) (steady h k a);
-        shows-alike = λ {h} {k} a c e w. alike-answer chosen a c e (not-tick-named c (and-true (when h) (names id c) w .1));
+        shows-alike = λ {h} {k} a c e w. alike-answer chosen a c e (not-tick-named c (and-both (when h) (names id c) w .1));
       }
 
       departures-logged : Logged chosen (λ p c. when p && departure scheduler id p c) (answerAt scheduler)
       unfolding departure isTick
       departures-logged = record {
-        struckOut = λ h c e. rw (not-tick-struck h c e) (and-zero (when h));
+        struckOut = λ h c e. rw (not-tick-struck h c e) (and-false (when h));
         which-alike = λ {h} {k} a c e. ap₂ _&&_ (steady h k a) (departs h k a c);
         shows-alike = λ {h} {k} a c e w. departed h k a c w;
       }
@@ -148,15 +148,15 @@ module _ (chosen : ℕ) where
 
           departed : (h k : History) → AlikeAt chosen h k → (c : Call) → when h && (isTick c && isDeparture id (answerAt scheduler h c)) ≡ true
               → answerAt scheduler h c ≡ answerAt scheduler k c
-          departed h k a (Open t d v) w = true-false (and-true (when h) false w .1) refl
-          departed h k a (Join j kind r b) w = true-false (and-true (when h) false w .1) refl
-          departed h k a (Change j kind r b) w = true-false (and-true (when h) false w .1) refl
-          departed h k a (Leave j) w = true-false (and-true (when h) false w .1) refl
-          departed h k a (Load j n) w = true-false (and-true (when h) false w .1) refl
-          departed h k a (Arrive j p) w = true-false (and-true (when h) false w .1) refl
+          departed h k a (Open t d v) w = true-false (and-both (when h) false w .1) refl
+          departed h k a (Join j kind r b) w = true-false (and-both (when h) false w .1) refl
+          departed h k a (Change j kind r b) w = true-false (and-both (when h) false w .1) refl
+          departed h k a (Leave j) w = true-false (and-both (when h) false w .1) refl
+          departed h k a (Load j n) w = true-false (and-both (when h) false w .1) refl
+          departed h k a (Arrive j p) w = true-false (and-both (when h) false w .1) refl
           departed h k a Tick w =
-              alike-departed chosen a id (seen h (and-true (when h) (isDeparture id (answerAt scheduler h Tick)) w .0))
-              (and-true (when h) (isDeparture id (answerAt scheduler h Tick)) w .1)
+              alike-departed chosen a id (seen h (and-both (when h) (isDeparture id (answerAt scheduler h Tick)) w .0))
+              (and-both (when h) (isDeparture id (answerAt scheduler h Tick)) w .1)
 
       -- an arrival that was dropped
       dropped : History → Call → Bool
@@ -168,7 +168,7 @@ module _ (chosen : ℕ) where
         struckOut = λ h c e. not-named h c (dropped h c) e;
         which-alike = λ {h} {k} a c e. ap₂ _&&_ (steady h k a) (same h k a c e (names id c) refl);
         shows-alike = λ {h} {k} a c e w.
-            alike-answer chosen a c e (not-tick-named c (and-true (names id c) (dropped h c) (and-true (when h) (names id c && dropped h c) w .1) .0));
+            alike-answer chosen a c e (not-tick-named c (and-both (names id c) (dropped h c) (and-both (when h) (names id c && dropped h c) w .1) .0));
       }
         where
           same : (h k : History) → AlikeAt chosen h k → (c : Call) → isStruck scheduler chosen h c ≡ false → (b : Bool) → names id c ≡ b
@@ -241,7 +241,7 @@ module _ (chosen : ℕ) where
       own p = rw (eqb-same chosen)
 
       indifferently : (id : ℕ) (p : History) → indifferentAt scheduler id p ≡ true → Watched id p
-      indifferently id p w = rw w (and-zero (not (eqb id chosen)))
+      indifferently id p w = rw w (and-false (not (eqb id chosen)))
 
 pub sameness : Sameness scheduler
 unfolding Sameness
