@@ -1,0 +1,90 @@
+-- `draw::pick` meets its contract. The loop's invariant is the walk's, and that the sum of the marks passed is within the
+-- target: so the mark at which it is exceeded is the first such id, as ids between two marks weigh nothing. Assumes nothing.
+use Prim.Native.Nat.{_^_, _≤_}
+use native.Mathlib.Omega.{arith}
+use borrow.Author.Needs.{needs}
+use Rattle.definitions.specs.Sizes.{ids}
+use Rattle.marks.specs.Marks.{marked}
+use Rattle.marks.proofs.Search.{firstFrom-le}
+use Rattle.draw.proofs.Walk.{Walked, Turn, walked-start, turn-small, turn-rest, drawn-turn, drawn-none}
+use Rattle.draw.proofs.pick.Statement.{statement}
+use Rattle.draw.proofs.pick.Tie as tie
+
+abbrev Inv-loop : tie.InvT-loop
+Inv-loop word rates target limit left₀ sum₀ left sum = Walked word rates (2 ^ 32) left sum × (sum ≤ limit)
+
+abbrev μ-loop : tie.MeasureT-loop
+μ-loop word rates target limit left₀ sum₀ left sum = left
+
+-- what is known of the mark and its rate once they are read
+turn : (c : tie.After-wide Inv-loop μ-loop)
+    → let loop = c .before .before .before .before .loop in
+    let args = c .before .before .before .before .before .args in
+    Turn (args .word) (args .rates .now) (2 ^ 32) (loop .left) (loop .sum) (c .before .before .first .result) (c .wide .result)
+turn c = record {
+  more = omega (arith, c .before .before .before .loop-test .taken);
+  walked = c .before .before .before .before .loop .inv .0;
+  at = c .before .before .first .ensures;
+  of = c .wide .ensures .0;
+  bound = omega (arith, c .wide .ensures .1);
+}
+
+loop-holds : tie.Need-loop-holds Inv-loop μ-loop
+unfolding ids
+loop-holds c = (walked-start (c .args .word) (c .args .rates .now) (2 ^ 32) (search needs), search needs)
+
+first-requires : tie.Need-first-requires Inv-loop μ-loop
+first-requires c κs = search needs
+
+cast-wide : tie.Need-cast-wide Inv-loop μ-loop
+cast-wide c = search needs
+
+mul-wide : tie.Need-mul-wide Inv-loop μ-loop
+mul-wide c = search needs
+
+element-copy-out-wide : tie.Need-element-copy-out-wide Inv-loop μ-loop
+unfolding ids
+element-copy-out-wide c = omega (arith, c .first .ensures, firstFrom-le 64 (marked (c .before .before .loop .left)))
+
+wide-requires : tie.Need-wide-requires Inv-loop μ-loop
+wide-requires c κs = search needs
+
+add-sum : tie.Need-add-sum Inv-loop μ-loop
+unfolding ids
+add-sum c = omega (arith, turn-small _ _ _ _ _ _ _ (turn c))
+
+returns : tie.Need-returns Inv-loop μ-loop
+returns c = drawn-turn _ _ _ _ _ _ _ _ (turn (c .before)) (c .before .before .before .before .before .loop .inv .1) (c .if1 .taken)
+
+rest-requires : tie.Need-rest-requires Inv-loop μ-loop
+rest-requires c κs = search needs
+
+loop-less : tie.Need-loop-less Inv-loop μ-loop
+loop-less c = c .rest .ensures .1 (turn (c .before .before) .more)
+
+loop-again : tie.Need-loop-again Inv-loop μ-loop
+loop-again c =
+    (turn-rest _ _ _ _ _ _ _ (turn (c .before .before)) (c .rest .result) (c .rest .ensures .0) (loop-less c), c .before .if1 .left)
+
+returns-2 : tie.Need-returns-2 Inv-loop μ-loop
+unfolding ids
+returns-2 c = drawn-none _ _ (2 ^ 32) _ _ _ (c .loop-test .left) (c .before .loop .inv .0) (c .before .loop .inv .1)
+
+pub pick-spec : {M : Type 1} → statement M
+pick-spec =
+    tie.close
+    (tie.spec
+    Inv-loop
+    μ-loop
+    loop-holds
+    first-requires
+    cast-wide
+    mul-wide
+    element-copy-out-wide
+    wide-requires
+    add-sum
+    returns
+    rest-requires
+    loop-less
+    loop-again
+    returns-2)

@@ -1,0 +1,78 @@
+// The order in which the waiting packets were accepted: a circular doubly linked list over the 2,048 places with one
+// sentinel, in one table that is lent. Every operation costs the same however many packets wait, and writes no packet.
+ghost use mathlib.Core.Path.{_≡_};
+ghost use mathlib.Core.List.{List, [], _∷_, _++_};
+ghost use Prim.Native.Nat.{ℕ, _≤_, _<_};
+ghost use Rattle.order.specs.Order.{sentinel, Sound, Absent, Ordered, frontOf, joined};
+
+// The sentinel, which follows the last place and stands before the first.
+pub const END: u32 = 2048;
+// The next node of a is at a, and the previous one at NODES + a.
+const NODES: usize = 2049;
+
+// The entries of the table: two for each node.
+pub const LINKS: usize = 4098;
+// The sentinel's entries: its next node is the first place, its previous one the last.
+const FIRST: usize = END as usize;
+
+const LAST: usize = NODES + FIRST;
+
+// Makes b follow a.
+fn join(links: &mut [u32; LINKS], a: u32, b: u32)
+    requires { ⌜ (a ≤ sentinel) × (b ≤ sentinel) ⌝ }
+    ensures { λ r. ⌜ now (links .exit) ≡ joined (now (links .entry)) a b ⌝ }
+{
+    links[a as usize] = b;
+    links[NODES + b as usize] = a;
+}
+
+// A table that holds the empty order.
+pub fn new_links() -> [u32; LINKS]
+    ensures { λ r. ⌜ Sound r × Ordered r [] ⌝ }
+{
+    [END; LINKS]
+}
+
+// The empty order, whatever the table held before.
+pub fn clear(links: &mut [u32; LINKS])
+    requires { ⌜ Sound (now links) ⌝ }
+    ensures { λ r. ⌜ Sound (now (links .exit)) ⌝ }
+    ensures { λ r. ⌜ Ordered (now (links .exit)) [] ⌝ }
+{
+    join(links, END, END);
+}
+
+// A new place is the last one. A number that is no place takes part by its remainder.
+pub fn push(links: &mut [u32; LINKS], place: u32)
+    requires { ⌜ Sound (now links) ⌝ }
+    ensures { λ r. ⌜ Sound (now (links .exit)) ⌝ }
+    ensures { λ r. ⌜ ((order : List ℕ) → Ordered (now (links .entry)) order → Absent place order → place < sentinel
+        → Ordered (now (links .exit)) (order ++ (place ∷ []))) ⌝ }
+{
+    let new = place % END;
+    let last = links[LAST];
+    join(links, last, new);
+    join(links, new, END);
+}
+
+// Takes a place out, wherever it stands.
+pub fn unlink(links: &mut [u32; LINKS], place: u32)
+    requires { ⌜ Sound (now links) ⌝ }
+    ensures { λ r. ⌜ Sound (now (links .exit)) ⌝ }
+    ensures { λ r. ⌜ ((before behind : List ℕ) → Ordered (now (links .entry)) (before ++ place ∷ behind)
+        → Ordered (now (links .exit)) (before ++ behind)) ⌝ }
+{
+    let at = (place % END) as usize;
+    let prev = links[NODES + at];
+    let next = links[at];
+    join(links, prev, next);
+}
+
+// The place that was accepted earliest, and END where none waits.
+pub fn front(links: &[u32; LINKS]) -> u32
+    requires { ⌜ Sound (now links) ⌝ }
+    ensures { λ r. ⌜ r ≤ sentinel ⌝ }
+    ensures { λ r. ⌜ ((order : List ℕ) → Ordered (now (links .entry)) order → r ≡ frontOf order) ⌝ }
+{
+    links[FIRST]
+}
