@@ -5,3 +5,4 @@ pub mod Kinds
 pub mod Histories
 pub mod Theorem
 pub mod Leaks
+pub mod Settings

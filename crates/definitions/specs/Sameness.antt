@@ -147,3 +147,16 @@ module _ (S : Scheduler) where
       → Place k K
       → calls (kept chosen h) ≡ calls (kept chosen k)
       → LooksSame chosen h k
+
+  -- the opens, joins, changes and leaves of a history, and what they get, latest first
+  unfoldable pub settingsOf : History → History
+  settingsOf start = start
+  settingsOf (h then c) = cond (isSetting c) (settingsOf h then c) (settingsOf h)
+
+  unfoldable pub settingAnswers : History → List Answer
+  settingAnswers start = []
+  settingAnswers (h then c) = cond (isSetting c) (answerAt h c ∷ settingAnswers h) (settingAnswers h)
+
+  -- "Which opens, joins, changes and leaves are accepted follows from these four alone."
+  unfoldable pub SettingsAlone : Type 0
+  SettingsAlone = (h k : History) → settingsOf h ≡ settingsOf k → settingAnswers h ≡ settingAnswers k

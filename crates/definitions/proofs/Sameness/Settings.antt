@@ -1,0 +1,174 @@
+-- Which opens, joins, changes and leaves are accepted follows from these four alone. They read an outline of the core, the
+-- threshold and each id's kind and rate, which no load, arrival or tick changes. Assumes nothing.
+use Prim.Native.Nat.{ℕ}
+use mathlib.Core.Path.{_≡_, refl, sym, ap, ap₂, fun-ext, _∙_}
+use mathlib.Core.Bool.{Bool, true, false, cond}
+use mathlib.Core.List.{List, [], _∷_}
+use lib.Dec.{eqb}
+use Rattle.definitions.specs.declared.Call.{Call}
+use Rattle.definitions.specs.declared.Call.the-variants.{Open, Join, Change, Leave, Load, Arrive, Tick}
+use Rattle.definitions.specs.declared.Answer.{Answer}
+use Rattle.definitions.specs.Client.{Client, Kind, kindOf, sameKind, nobody, joining, retuned, changed, loaded, queued, spent, refilled}
+use Rattle.definitions.specs.State.{State, Core, unopened, running, fresh, put, without}
+use Rattle.definitions.specs.Checks.{Result, Check, accepted, checked, activeRate, rates, openChecks, joinChecks, activeChecks, changeChecks, leaveChecks, loadChecks, arriveChecks}
+use Rattle.definitions.specs.Calls.{onOpen, updated, onJoin, orderAfterChange, onChange, onLeave, onLoad, orderAfterArrival, onArrive}
+use Rattle.definitions.specs.Tick.{turn, refillAll, slotted, onTick}
+use Rattle.definitions.specs.Core.{step}
+use Rattle.definitions.specs.History.{History, start, _then_, scheduler}
+use Rattle.definitions.specs.Sameness.{isSetting, after, answerAt, settingsOf, settingAnswers, SettingsAlone}
+use Rattle.definitions.proofs.Laws.Tests.{true-false}
+use Rattle.definitions.proofs.Laws.Checked.{checked-cases, checked-rel}
+use Rattle.definitions.proofs.Laws.Clients.{put-cases, put-keeps, sent-keeps}
+
+-- a client as its kind and rate
+unfoldable pub sketched : Client → Client
+sketched c = record { kind = c .kind; rate = c .rate; burst = 0; level = 0; pool = 0; queue = [] }
+
+unfoldable pub outline : State → State
+outline s = record { threshold = s .threshold; discipline = 0; generator = 0; clients = λ id. sketched (s .clients id); order = [] }
+
+unfoldable pub outlineCore : Core → Core
+outlineCore unopened = unopened
+outlineCore (running s) = running (outline s)
+
+outline-path : (s t : State) → s .threshold ≡ t .threshold → ((id : ℕ) → sketched (s .clients id) ≡ sketched (t .clients id)) → outline s ≡ outline t
+unfolding outline
+outline-path s t p e = λ i. record { threshold = p i; discipline = 0; generator = 0; clients = λ id. e id i; order = [] }
+
+-- the same answer, and cores of the same outline
+record Alike (r q : Result) : Type 0 where
+  answers : r .answer ≡ q .answer
+  cores : outlineCore (r .core) ≡ outlineCore (q .core)
+
+-- one client anew, in a state and in its outline
+updated-outline : (s : State) (id : ℕ) (c d : Client) (o p : List ℕ)
+    → sketched c ≡ sketched d
+    → outline (updated s id c o) ≡ outline (updated (outline s) id d p)
+unfolding updated outline sketched put
+updated-outline s id c d o p e =
+    outline-path (updated s id c o) (updated (outline s) id d p) refl (λ j. go j (eqb j id))
+  where
+    go : (j : ℕ) (b : Bool) → sketched (cond b c (s .clients j)) ≡ sketched (cond b d (sketched (s .clients j)))
+    go j true = e
+    go j false = refl
+
+checked-alike : (s : State) (cs : List Check) (t u : State)
+    → outline t ≡ outline u
+    → Alike (checked cs (running s) (accepted t)) (checked cs (running (outline s)) (accepted u))
+unfolding outlineCore outline sketched
+checked-alike s cs t u e =
+    checked-rel Alike cs (running s) (running (outline s)) (accepted t) (accepted u)
+    (λ n. record { answers = refl; cores = refl })
+    (record { answers = refl; cores = ap running e })
+
+changed-sketched : (c : Client) (type rate burst : ℕ)
+    → sketched (changed c type rate burst) ≡ sketched (changed (sketched c) type rate burst)
+unfolding sketched changed retuned
+changed-sketched c type rate burst = go (sameKind (c .kind) (kindOf type))
+  where
+    go : (b : Bool)
+        → sketched (cond b (retuned c rate burst) (joining type rate burst))
+        ≡ sketched (cond b (retuned (sketched c) rate burst) (joining type rate burst))
+    go true = refl
+    go false = refl
+
+-- an open, join, change or leave on a core and on its outline
+setting-alike : (core : Core) (c : Call) → isSetting c ≡ true → Alike (step core c) (step (outlineCore core) c)
+unfolding step outlineCore outline sketched isSetting onOpen onJoin onChange onLeave joinChecks changeChecks leaveChecks activeChecks
+    rates activeRate orderAfterChange
+setting-alike unopened c e = record { answers = refl; cores = refl }
+setting-alike (running s) (Open t d v) e =
+    checked-rel Alike (openChecks t d v) (running s) (running (outline s)) (accepted (fresh t d v)) (accepted (fresh t d v))
+    (λ n. record { answers = refl; cores = refl })
+    (record { answers = refl; cores = refl })
+setting-alike (running s) (Join j k r b) e =
+    checked-alike s (joinChecks s j k r b) (updated s j (joining k r b) (s .order)) (updated (outline s) j (joining k r b) [])
+    (updated-outline s j (joining k r b) (joining k r b) (s .order) [] refl)
+setting-alike (running s) (Change j k r b) e =
+    checked-alike s (changeChecks s j k r b) (updated s j (changed (s .clients j) k r b) (orderAfterChange s j k))
+    (updated (outline s) j (changed (sketched (s .clients j)) k r b) (orderAfterChange (outline s) j k))
+    (updated-outline s j (changed (s .clients j) k r b) (changed (sketched (s .clients j)) k r b) (orderAfterChange s j k)
+    (orderAfterChange (outline s) j k) (changed-sketched (s .clients j) k r b))
+setting-alike (running s) (Leave j) e =
+    checked-alike s (leaveChecks s j) (updated s j nobody (without j (s .order))) (updated (outline s) j nobody (without j []))
+    (updated-outline s j nobody nobody (without j (s .order)) (without j []) refl)
+setting-alike (running s) (Load j n) e = true-false e refl
+setting-alike (running s) (Arrive j p) e = true-false e refl
+setting-alike (running s) Tick e = true-false e refl
+
+-- any other call keeps the outline
+other-kept : (core : Core) (c : Call) → isSetting c ≡ false → outlineCore (step core c .core) ≡ outlineCore core
+unfolding step outlineCore isSetting onLoad onArrive onTick updated loaded queued slotted refillAll refilled spent sketched
+other-kept unopened (Open t d v) e = true-false refl e
+other-kept unopened (Join j k r b) e = refl
+other-kept unopened (Change j k r b) e = refl
+other-kept unopened (Leave j) e = refl
+other-kept unopened (Load j n) e = refl
+other-kept unopened (Arrive j p) e = refl
+other-kept unopened Tick e = refl
+other-kept (running s) (Open t d v) e = true-false refl e
+other-kept (running s) (Join j k r b) e = true-false refl e
+other-kept (running s) (Change j k r b) e = true-false refl e
+other-kept (running s) (Leave j) e = true-false refl e
+other-kept (running s) (Load j n) e =
+    checked-cases (λ r. outlineCore (r .core) ≡ running (outline s)) (loadChecks s j n) (running s)
+    (accepted (updated s j (loaded (s .clients j) n) (s .order)))
+    (λ m. refl)
+    (λ passed. ap running (outline-path (updated s j (loaded (s .clients j) n) (s .order)) s refl
+    (put-keeps sketched (s .clients) j (loaded (s .clients j) n) refl)))
+other-kept (running s) (Arrive j p) e =
+    checked-cases (λ r. outlineCore (r .core) ≡ running (outline s)) (arriveChecks s j p) (running s)
+    (accepted (updated s j (queued (s .clients j) p) (orderAfterArrival s j)))
+    (λ m. refl)
+    (λ passed. ap running (outline-path (updated s j (queued (s .clients j) p) (orderAfterArrival s j)) s refl
+    (put-keeps sketched (s .clients) j (queued (s .clients j) p) refl)))
+other-kept (running s) Tick e =
+    ap running (outline-path (slotted s (turn s)) s refl
+    (sent-keeps (λ (c : Client). sketched (refilled c)) (λ c. refl) (turn s .rule) (turn s .id) (s .clients)))
+
+-- ---- histories
+
+-- the core after a history, and after its settings alone
+outline-settings : (h : History) → outlineCore (after scheduler h) ≡ outlineCore (after scheduler (settingsOf scheduler h))
+unfolding after settingsOf
+outline-settings start = refl
+outline-settings (h then c) = go (isSetting c) refl (outline-settings h)
+  where
+    K : History
+    K = settingsOf scheduler h
+
+    go : (b : Bool)
+        → isSetting c ≡ b
+        → outlineCore (after scheduler h) ≡ outlineCore (after scheduler K)
+        → outlineCore (step (after scheduler h) c .core) ≡ outlineCore (after scheduler (cond b (K then c) K))
+    go true e ih =
+        setting-alike (after scheduler h) c e .cores
+        ∙ ap (λ (x : Core). outlineCore (step x c .core)) ih
+        ∙ sym (setting-alike (after scheduler K) c e .cores)
+    go false e ih = other-kept (after scheduler h) c e ∙ ih
+
+answers-settings : (h : History) → settingAnswers scheduler h ≡ settingAnswers scheduler (settingsOf scheduler h)
+unfolding settingAnswers settingsOf answerAt
+answers-settings start = refl
+answers-settings (h then c) = go (isSetting c) refl (answers-settings h)
+  where
+    K : History
+    K = settingsOf scheduler h
+
+    go : (b : Bool)
+        → isSetting c ≡ b
+        → settingAnswers scheduler h ≡ settingAnswers scheduler K
+        → cond b (answerAt scheduler h c ∷ settingAnswers scheduler h) (settingAnswers scheduler h)
+        ≡ settingAnswers scheduler (cond b (K then c) K)
+    go true e ih =
+        rw e
+        (ap₂ (λ (x : Answer) (xs : List Answer). x ∷ xs)
+        (setting-alike (after scheduler h) c e .answers
+        ∙ ap (λ (x : Core). step x c .answer) (outline-settings h)
+        ∙ sym (setting-alike (after scheduler K) c e .answers))
+        ih)
+    go false e ih = ih
+
+pub settings-alone : SettingsAlone scheduler
+unfolding SettingsAlone
+settings-alone h k e = answers-settings h ∙ ap (settingAnswers scheduler) e ∙ sym (answers-settings k)
