@@ -1,0 +1,22 @@
+-- Texts as lists of bytes. A quoted text stands for its bytes, so that the forms can be read as the paper prints them.
+use Prim.Native.Nat.{ℕ}
+use Prim.Native.Char.{code}
+use Prim.Native.String.{String}
+use Prim.Native.String
+use mathlib.Core.List.{List, [], _∷_}
+
+abbrev pub bytes : String → List ℕ
+bytes String.[] = []
+bytes (String._∷_ c s) = code c ∷ bytes s
+
+-- "each line closed by a line feed"
+abbrev pub lineFeed : ℕ
+lineFeed = 10
+
+-- "whole text over 60,000 bytes"
+unfoldable pub textLimit : ℕ
+textLimit = 60000
+
+-- "a number above 4294967295"
+unfoldable pub numberLimit : ℕ
+numberLimit = 4294967295

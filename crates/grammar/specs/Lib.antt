@@ -1,0 +1,6 @@
+-- The script and its printout (paper 01, "Script and printout"), in the order in which a reader needs the modules.
+pub mod Bytes
+pub mod Numerals
+pub mod Templates
+pub mod Grammar
+pub mod Printout

@@ -1,0 +1,100 @@
+// Where a core begins: unopened, and opened with empty tables.
+use generator::Generator;
+use order::END;
+use order::LINKS;
+use tables::Answered;
+use tables::CLIENTS;
+use tables::Control;
+use tables::STORE;
+ghost use mathlib.Core.Path.{_≡_};
+ghost use mathlib.Core.List.{List};
+ghost use lib.ListN.{replicate};
+ghost use Prim.Native.Nat.{ℕ};
+ghost use Rattle.definitions.specs.declared.Call.the-variants.{Open};
+ghost use Rattle.definitions.specs.State.{unopened};
+ghost use Rattle.definitions.specs.Checks.{openChecks};
+ghost use Rattle.tables.specs.Tables.{Tables, tables};
+ghost use Rattle.tables.specs.Meaning.{coreOf};
+ghost use Rattle.tables.specs.Invariant.{Valid};
+ghost use Rattle.tables.specs.Numbers.{firstFailed};
+ghost use Rattle.tables.specs.Promise.{Meets};
+
+const THRESHOLD_LIMIT: u32 = 1024;
+
+// The control of a core before any open, whatever its tables hold.
+pub fn unopened() -> Control
+    ensures { λ r. ⌜ ((t : Tables) → (coreOf r t ≡ unopened) × Valid r t) ⌝ }
+{
+    control_of(false, 0, 0, 0)
+}
+
+// A control without clients.
+fn control_of(opened: bool, threshold: u32, discipline: u32, seed: u32) -> Control
+    ensures { λ r. ⌜ r ≡ record {
+      opened = opened;
+      threshold = threshold;
+      discipline = discipline;
+      generator = record { value = seed };
+      rates = 0;
+      indifferent = 0;
+      private = 0;
+      waiting = 0;
+    } ⌝ }
+{
+    Control {
+        opened,
+        threshold,
+        discipline,
+        generator: Generator { value: seed },
+        rates: 0,
+        indifferent: 0,
+        private: 0,
+        waiting: 0,
+    }
+}
+
+// The number that an open is refused with: 1, 2, 3.
+fn open_number(threshold: u32, discipline: u32, seed: u32) -> u32
+    ensures { λ r. ⌜ r ≡ firstFailed (openChecks threshold discipline seed) ⌝ }
+{
+    if threshold < 1 {
+        return 1;
+    }
+    if THRESHOLD_LIMIT < threshold {
+        return 1;
+    }
+    if 1 < discipline {
+        return 2;
+    }
+    if seed == 0 {
+        return 3;
+    }
+    0
+}
+
+// Gives a core without clients, in place of any earlier one (paper 01, "Open"). Refused: 1, 2, 3.
+pub fn open(
+    control: Control,
+    clients: &mut [u32; CLIENTS],
+    handles: &mut [u32; STORE],
+    lengths: &mut [u32; STORE],
+    links: &mut [u32; LINKS],
+    threshold: u32,
+    discipline: u32,
+    seed: u32,
+) -> Answered
+    requires { ⌜ Valid control (tables (now clients) (now handles) (now lengths) (now links)) ⌝ }
+    ensures { λ r. ⌜ Meets (Open threshold discipline seed) control
+        (tables (now (clients .entry)) (now (handles .entry)) (now (lengths .entry)) (now (links .entry))) r
+        (tables (now (clients .exit)) (now (handles .exit)) (now (lengths .exit)) (now (links .exit))) ⌝ }
+{
+    let number = open_number(threshold, discipline, seed);
+    if number != 0 {
+        return tables::refused(control, number);
+    }
+    *clients = [0; CLIENTS];
+    *handles = [0; STORE];
+    *lengths = [0; STORE];
+    *links = [END; LINKS];
+    tables::accepted(control_of(true, threshold, discipline, seed))
+}

@@ -1,0 +1,63 @@
+-- Which checks each call goes through, and what it makes of a state where they are passed: the definitions, read off.
+-- Assumes nothing.
+use Prim.Native.Nat.{ℕ}
+use mathlib.Core.Path.{_≡_, refl}
+use Rattle.definitions.specs.declared.Packet.{Packet}
+use Rattle.definitions.specs.declared.Call.the-variants.{Join, Change, Leave, Load, Arrive}
+use Rattle.definitions.specs.Client.{nobody, joining, changed, loaded, queued}
+use Rattle.definitions.specs.State.{without}
+use Rattle.definitions.specs.Checks.{termChecks, joinChecks, activeChecks, changeChecks, leaveChecks, loadChecks, arriveChecks}
+use Rattle.definitions.specs.Calls.{updated, onJoin, orderAfterChange, onChange, onLeave, onLoad, orderAfterArrival, onArrive}
+use Rattle.definitions.specs.Core.{step}
+use Rattle.tables.proofs.Promises.{Checking}
+
+module _ (id : ℕ) where
+  unfoldable pub joins : (type rate burst : ℕ) → Checking (Join id type rate burst)
+  unfolding step onJoin joinChecks termChecks
+  joins type rate burst = record {
+    checks = λ s. joinChecks s id type rate burst;
+    made = λ s. updated s id (joining type rate burst) (s .order);
+    shut = refl;
+    runs = λ s. refl;
+    counted = λ s. tt;
+  }
+
+  unfoldable pub changes : (type rate burst : ℕ) → Checking (Change id type rate burst)
+  unfolding step onChange changeChecks activeChecks termChecks
+  changes type rate burst = record {
+    checks = λ s. changeChecks s id type rate burst;
+    made = λ s. updated s id (changed (s .clients id) type rate burst) (orderAfterChange s id type);
+    shut = refl;
+    runs = λ s. refl;
+    counted = λ s. tt;
+  }
+
+  unfoldable pub leaves : Checking (Leave id)
+  unfolding step onLeave leaveChecks activeChecks
+  leaves = record {
+    checks = λ s. leaveChecks s id;
+    made = λ s. updated s id nobody (without id (s .order));
+    shut = refl;
+    runs = λ s. refl;
+    counted = λ s. tt;
+  }
+
+  unfoldable pub loads : (dummies : ℕ) → Checking (Load id dummies)
+  unfolding step onLoad loadChecks activeChecks
+  loads dummies = record {
+    checks = λ s. loadChecks s id dummies;
+    made = λ s. updated s id (loaded (s .clients id) dummies) (s .order);
+    shut = refl;
+    runs = λ s. refl;
+    counted = λ s. tt;
+  }
+
+  unfoldable pub arrives : (p : Packet) → Checking (Arrive id p)
+  unfolding step onArrive arriveChecks activeChecks
+  arrives p = record {
+    checks = λ s. arriveChecks s id p;
+    made = λ s. updated s id (queued (s .clients id) p) (orderAfterArrival s id);
+    shut = refl;
+    runs = λ s. refl;
+    counted = λ s. tt;
+  }

@@ -1,0 +1,53 @@
+-- What control and tables mean: a state of the definitions. Where a queue begins, what its unused places hold and how the
+-- order is linked do not show in it.
+use Prim.Native.Nat.{ℕ}
+use mathlib.Core.Bool.{Bool, true, false, cond}
+use mathlib.Core.List.{List, map}
+use lib.Dec.{ltb}
+use lib.ListN.{getD}
+use Rattle.definitions.specs.declared.Packet.{Packet}
+use Rattle.definitions.specs.Sizes.{ids}
+use Rattle.definitions.specs.Client.{Kind, absent, indifferent, private, Client, nobody}
+use Rattle.definitions.specs.State.{State, Core, unopened, running}
+use Rattle.marks.specs.Marks.{marked}
+use Rattle.order.specs.Order.{sentinel, nextOf, walked}
+use Rattle.order.specs.Owner.{owner}
+use Rattle.tables.specs.declared.Control.{Control}
+use Rattle.tables.specs.Tables.{Tables, rateAt, burstAt, levelAt, poolAt, headAt, countAt, ring}
+
+unfoldable pub kindAt : Control → ℕ → Kind
+kindAt c id = cond (marked (c .indifferent) id) indifferent (cond (marked (c .private) id) private absent)
+
+unfoldable pub packetAt : Tables → ℕ → Packet
+packetAt t place = record { handle = getD (t .handles) place 0; length = getD (t .lengths) place 0 }
+
+unfoldable pub queueAt : Tables → ℕ → List Packet
+queueAt t id = map (packetAt t) (ring id (headAt (t .clients) id) (countAt (t .clients) id))
+
+unfoldable pub clientAt : Control → Tables → ℕ → Client
+clientAt c t id = record {
+  kind = kindAt c id;
+  rate = rateAt (t .clients) id;
+  burst = burstAt (t .clients) id;
+  level = levelAt (t .clients) id;
+  pool = poolAt (t .clients) id;
+  queue = queueAt t id;
+}
+
+unfoldable pub clientsOf : Control → Tables → ℕ → Client
+clientsOf c t id = cond (ltb id ids) (clientAt c t id) nobody
+
+unfoldable pub orderOf : Tables → List ℕ
+orderOf t = map owner (walked sentinel (t .links) (nextOf (t .links) sentinel))
+
+unfoldable pub stateOf : Control → Tables → State
+stateOf c t = record {
+  threshold = c .threshold;
+  discipline = c .discipline;
+  generator = c .generator .value;
+  clients = clientsOf c t;
+  order = orderOf t;
+}
+
+unfoldable pub coreOf : Control → Tables → Core
+coreOf c t = cond (c .opened) (running (stateOf c t)) unopened

@@ -1,0 +1,17 @@
+-- What a call promises: answer and core after are what the definitions give for the arguments and the core before,
+-- refused calls too, and the tables stay sound.
+use mathlib.Core.Path.{_≡_}
+use Rattle.definitions.specs.declared.Call.{Call}
+use Rattle.definitions.specs.Checks.{Result}
+use Rattle.definitions.specs.Core.{step}
+use Rattle.tables.specs.declared.Control.{Control}
+use Rattle.tables.specs.declared.Answered.{Answered}
+use Rattle.tables.specs.Tables.{Tables}
+use Rattle.tables.specs.Meaning.{coreOf}
+use Rattle.tables.specs.Invariant.{Valid}
+
+-- the call on control c and tables t gives r, and leaves the tables u
+pub record Meets (call : Call) (c : Control) (t : Tables) (r : Answered) (u : Tables) : Type 0 where
+  pub answer : r .answer ≡ step (coreOf c t) call .answer
+  pub core : coreOf (r .control) u ≡ step (coreOf c t) call .core
+  pub valid : Valid (r .control) u

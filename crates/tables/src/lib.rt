@@ -1,0 +1,84 @@
+// The tables of the core and what goes beside them by value: the layer under the calls.
+use definitions::Answer;
+use generator::Generator;
+ghost use mathlib.Core.Path.{_≡_};
+ghost use Prim.Native.Nat.{_<_, _^_};
+ghost use Rattle.definitions.specs.Client.{isActive};
+ghost use Rattle.tables.specs.Meaning.{kindAt};
+
+// What of the core is no table, and goes by value.
+pub struct Control {
+    pub opened: bool,
+    pub threshold: u32,
+    pub discipline: u32,
+    pub generator: Generator,
+    // the rates of all active clients together
+    pub rates: u32,
+    // a mark for each id that is indifferent, that is private, and that has packets waiting
+    pub indifferent: u64,
+    pub private: u64,
+    pub waiting: u64,
+}
+
+// What a call gives: its answer, and the control after it.
+pub struct Answered {
+    pub control: Control,
+    pub answer: Answer,
+}
+
+// How many ids there are, and how many places each has.
+pub const IDS: u32 = 64;
+
+pub const PLACES: u32 = 32;
+
+// The clients' table: six numbers for each id, one kind of number after the other.
+pub const CLIENTS: usize = 384;
+
+pub const BURST: u32 = 64;
+
+pub const LEVEL: u32 = 128;
+
+pub const POOL: u32 = 192;
+
+pub const HEAD: u32 = 256;
+
+pub const COUNT: u32 = 320;
+
+// The places of the waiting packets, 32 for each id.
+pub const STORE: usize = 2048;
+
+// What a packet costs a bucket, and how many of it a burst of one is; the link has as many shares.
+pub const SHARES: u32 = 1024;
+
+pub fn refused(control: Control, number: u32) -> Answered
+    ensures { λ r. ⌜ r ≡ record { control = control; answer = Answer.Refused number } ⌝ }
+{
+    Answered {
+        control,
+        answer: Answer::Refused { number },
+    }
+}
+
+pub fn accepted(control: Control) -> Answered
+    ensures { λ r. ⌜ r ≡ record { control = control; answer = Answer.Accepted } ⌝ }
+{
+    Answered {
+        control,
+        answer: Answer::Accepted,
+    }
+}
+
+pub fn wide(x: u32) -> u64
+    ensures { λ r. ⌜ (r ≡ x) × (r < 2 ^ 32) ⌝ }
+{
+    x as u64
+}
+
+pub fn active(control: Control, id: u32) -> bool
+    ensures { λ r. ⌜ r ≡ isActive (kindAt control id) ⌝ }
+{
+    if marks::has(control.indifferent, id) {
+        return true;
+    }
+    marks::has(control.private, id)
+}

@@ -1,0 +1,179 @@
+// What tenants and their neighbours send: dummies for a private pool, and packets.
+use definitions::Packet;
+use order::LINKS;
+use tables::Answered;
+use tables::CLIENTS;
+use tables::COUNT;
+use tables::Control;
+use tables::HEAD;
+use tables::IDS;
+use tables::LEVEL;
+use tables::PLACES;
+use tables::POOL;
+use tables::SHARES;
+use tables::STORE;
+ghost use mathlib.Core.Path.{_≡_};
+ghost use mathlib.Core.List.{List};
+ghost use lib.ListN.{set};
+ghost use Prim.Native.Nat.{ℕ, _+_, _-_, _*_, _%_, _≤_, _<_};
+ghost use Rattle.definitions.specs.declared.Call.the-variants.{Load, Arrive};
+ghost use Rattle.definitions.specs.Sizes.{ids, places, shares};
+ghost use Rattle.definitions.specs.Checks.{loadChecks, arriveChecks};
+ghost use Rattle.tables.specs.Tables.{tables, levelAt, headAt, countAt};
+ghost use Rattle.tables.specs.Invariant.{Valid};
+ghost use Rattle.tables.specs.Numbers.{refusal};
+ghost use Rattle.tables.specs.Promise.{Meets};
+
+const POOL_LIMIT: u64 = 255;
+
+// A packet's length in bytes.
+const SHORTEST: u32 = 64;
+
+const LONGEST: u32 = 1518;
+
+// The number that a load is refused with: 19, 4, 5, 11, 12.
+fn load_number(control: Control, clients: &[u32; CLIENTS], id: u32, dummies: u32) -> u32
+    ensures { λ r. ⌜ ((h l k : List ℕ) → r ≡ refusal control (tables (now (clients .entry)) h l k) (λ s. loadChecks s id dummies)) ⌝ }
+{
+    if !control.opened {
+        return 19;
+    }
+    if IDS <= id {
+        return 4;
+    }
+    if !tables::active(control, id) {
+        return 5;
+    }
+    if marks::has(control.indifferent, id) {
+        return 11;
+    }
+    if POOL_LIMIT < tables::wide(clients[(POOL + id) as usize]) + tables::wide(dummies) {
+        return 12;
+    }
+    0
+}
+
+// Adds dummies to a private client's pool (paper 01, "Load").
+pub fn load(
+    control: Control,
+    clients: &mut [u32; CLIENTS],
+    handles: &[u32; STORE],
+    lengths: &[u32; STORE],
+    links: &[u32; LINKS],
+    id: u32,
+    dummies: u32,
+) -> Answered
+    requires { ⌜ Valid control (tables (now clients) (now handles) (now lengths) (now links)) ⌝ }
+    ensures { λ r. ⌜ Meets (Load id dummies) control
+        (tables (now (clients .entry)) (now (handles .entry)) (now (lengths .entry)) (now (links .entry))) r
+        (tables (now (clients .exit)) (now (handles .entry)) (now (lengths .entry)) (now (links .entry))) ⌝ }
+{
+    let number = load_number(control, clients, id, dummies);
+    if number != 0 {
+        return tables::refused(control, number);
+    }
+    let at = (POOL + id) as usize;
+    clients[at] = clients[at] + dummies;
+    tables::accepted(control)
+}
+
+// The number that a packet is refused with: 19, 4, 5, 13, 14, 15.
+fn arrive_number(control: Control, clients: &[u32; CLIENTS], id: u32, packet: Packet) -> u32
+    ensures { λ r. ⌜ ((h l k : List ℕ) → r ≡ refusal control (tables (now (clients .entry)) h l k) (λ s. arriveChecks s id packet)) ⌝ }
+{
+    if !control.opened {
+        return 19;
+    }
+    if IDS <= id {
+        return 4;
+    }
+    if !tables::active(control, id) {
+        return 5;
+    }
+    if packet.length < SHORTEST {
+        return 13;
+    }
+    if LONGEST < packet.length {
+        return 13;
+    }
+    if PLACES <= clients[(COUNT + id) as usize] {
+        return 14;
+    }
+    if !marks::has(control.indifferent, id) {
+        return 0;
+    }
+    if clients[(LEVEL + id) as usize] < SHARES {
+        return 15;
+    }
+    0
+}
+
+// The place behind an id's last packet.
+fn free_place(clients: &[u32; CLIENTS], id: u32) -> u32
+    requires { ⌜ (id < ids) × (headAt (now clients) id < places) × (countAt (now clients) id < places) ⌝ }
+    ensures { λ r. ⌜ r ≡ id * places + (headAt (now (clients .entry)) id + countAt (now (clients .entry)) id) % places ⌝ }
+{
+    let head = clients[(HEAD + id) as usize];
+    let count = clients[(COUNT + id) as usize];
+    id * PLACES + (head + count) % PLACES
+}
+
+// Puts a packet at a place.
+fn keep(handles: &mut [u32; STORE], lengths: &mut [u32; STORE], place: u32, packet: Packet)
+    requires { ⌜ place < ids * places ⌝ }
+    ensures { λ r. ⌜ now (handles .exit) ≡ set (now (handles .entry)) place (packet .handle) ⌝ }
+    ensures { λ r. ⌜ now (lengths .exit) ≡ set (now (lengths .entry)) place (packet .length) ⌝ }
+{
+    let at = place as usize;
+    handles[at] = packet.handle;
+    lengths[at] = packet.length;
+}
+
+// Raises the count of an id's packets by one.
+fn count_up(clients: &mut [u32; CLIENTS], id: u32)
+    requires { ⌜ (id < ids) × (countAt (now clients) id < places) ⌝ }
+    ensures { λ r. ⌜ now (clients .exit) ≡ set (now (clients .entry)) (5 * ids + id) (countAt (now (clients .entry)) id + 1) ⌝ }
+{
+    let at = (COUNT + id) as usize;
+    clients[at] = clients[at] + 1;
+}
+
+// Takes what a packet costs from an id's bucket.
+fn charge(clients: &mut [u32; CLIENTS], id: u32)
+    requires { ⌜ (id < ids) × (shares ≤ levelAt (now clients) id) ⌝ }
+    ensures { λ r. ⌜ now (clients .exit) ≡ set (now (clients .entry)) (2 * ids + id) (levelAt (now (clients .entry)) id - shares) ⌝ }
+{
+    let at = (LEVEL + id) as usize;
+    clients[at] = clients[at] - SHARES;
+}
+
+// Puts a packet last in its client's queue (paper 01, "Arrive"). It costs the same however many packets wait.
+pub fn arrive(
+    control: Control,
+    clients: &mut [u32; CLIENTS],
+    handles: &mut [u32; STORE],
+    lengths: &mut [u32; STORE],
+    links: &mut [u32; LINKS],
+    id: u32,
+    packet: Packet,
+) -> Answered
+    requires { ⌜ Valid control (tables (now clients) (now handles) (now lengths) (now links)) ⌝ }
+    ensures { λ r. ⌜ Meets (Arrive id packet) control
+        (tables (now (clients .entry)) (now (handles .entry)) (now (lengths .entry)) (now (links .entry))) r
+        (tables (now (clients .exit)) (now (handles .exit)) (now (lengths .exit)) (now (links .exit))) ⌝ }
+{
+    let number = arrive_number(control, clients, id, packet);
+    if number != 0 {
+        return tables::refused(control, number);
+    }
+    let place = free_place(clients, id);
+    keep(handles, lengths, place, packet);
+    count_up(clients, id);
+    if marks::has(control.indifferent, id) {
+        charge(clients, id);
+        order::push(links, place);
+    }
+    let mut after = control;
+    after.waiting = marks::mark(control.waiting, id);
+    tables::accepted(after)
+}
