@@ -1,12 +1,15 @@
--- Laws of the running sum of weights, for any weights: each is an induction on the number of ids summed.
--- Assumes nothing.
-use Prim.Native.Nat.{ℕ, zero, suc, _+_, _*_, _≤_, _<_}
-use mathlib.Core.Path.{_≡_, refl, sym, ap, _∙_}
+-- Laws of the running sum of weights and of the id drawn by it, for any weights.
+-- Each is an induction on the number of ids summed. Assumes nothing.
+use Prim.Native.Nat.{ℕ, zero, suc, _+_, _≤_, _<_}
+use mathlib.Core.Path.{_≡_, refl, ap}
 use mathlib.Core.Logic.{_≢_, ⊎-elim}
-use native.Mathlib.Nat.{le-refl, le-suc, lt-irrefl, not-suc-le-zero, le-of-suc-le-suc, eq-or-lt-of-le, suc-mul}
+use native.Mathlib.Nat.{le-refl, not-suc-le-zero, le-of-suc-le-suc, eq-or-lt-of-le}
 use native.Mathlib.Decide.{le-ind}
 use native.Mathlib.Omega.{arith}
-use Rattle.definitions.specs.Draw.{sumBelow}
+use lib.Dec.{ltb}
+use Rattle.definitions.specs.Sizes.{ids}
+use Rattle.definitions.specs.Draw.{sumBelow, drawnAt}
+use Rattle.marks.proofs.Search.{firstFrom-cong}
 
 -- weights that agree have the same sum
 pub sumBelow-cong : (n : ℕ) (f g : ℕ → ℕ) → ((j : ℕ) → j < n → f j ≡ g j) → sumBelow n f ≡ sumBelow n g
@@ -15,6 +18,13 @@ sumBelow-cong zero f g same = refl
 sumBelow-cong (suc n) f g same =
     let below : sumBelow n f ≡ sumBelow n g = sumBelow-cong n f g (λ j l. same j (omega arith)) in
     omega (arith, same n (le-refl (suc n)))
+
+-- and the same id drawn
+pub drawnAt-cong : (f g : ℕ → ℕ) (target : ℕ) → ((j : ℕ) → j < ids → f j ≡ g j) → drawnAt f target ≡ drawnAt g target
+unfolding drawnAt
+drawnAt-cong f g target same =
+    firstFrom-cong ids (λ id. ltb target (sumBelow (suc id) f)) (λ id. ltb target (sumBelow (suc id) g))
+    (λ j l. ap (ltb target) (sumBelow-cong (suc j) f g (λ i h. same i (omega arith))))
 
 -- ids that weigh nothing add nothing
 pub sumBelow-none : (n : ℕ) (f : ℕ → ℕ) → ((j : ℕ) → j < n → f j ≡ 0) → sumBelow n f ≡ 0

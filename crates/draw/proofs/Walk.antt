@@ -4,7 +4,7 @@
 use Prim.Native.Nat.{ℕ, suc, _+_, _*_, _^_, _≤_, _<_, zero-le}
 use mathlib.Core.Path.{_≡_, refl, sym, ap, _∙_}
 use mathlib.Core.Logic.{_≢_, ⊎-elim}
-use mathlib.Core.Bool.{Bool, true, false, cond, not, _&&_, and-true, and-false}
+use mathlib.Core.Bool.{true, false, not, _&&_, and-true, and-false}
 use mathlib.Core.List.{List}
 use native.Mathlib.Nat.{le-refl, le-suc, le-trans, lt-of-not-le, eq-or-lt-of-le, zero-add, suc-mul, mul-le-mul-right}
 use native.Mathlib.Omega.{arith}
@@ -28,16 +28,16 @@ firstOf word = firstFrom 0 ids (marked word)
 abbrev pub RestOf : ℕ → ℕ → Type 0
 RestOf word rest = (j : ℕ) → marked rest j ≡ marked word j && not (eqb j (firstOf word))
 
-first-none : (word : ℕ) → word ≡ 0 → firstOf word ≡ ids
+pub first-none : (word : ℕ) → word ≡ 0 → firstOf word ≡ ids
 first-none word e = ap firstOf e ∙ marked-first-none ids
 
 -- ---- what a mark and its lack say of a weight
 
-weight-marked : (word : ℕ) (rates : List ℕ) (id : ℕ) → marked word id ≡ true → weightAt word rates id ≡ getD rates id 0
+pub weight-marked : (word : ℕ) (rates : List ℕ) (id : ℕ) → marked word id ≡ true → weightAt word rates id ≡ getD rates id 0
 unfolding weightAt
 weight-marked word rates id e = rw e
 
-weight-unmarked : (word : ℕ) (rates : List ℕ) (id : ℕ) → marked word id ≡ false → weightAt word rates id ≡ 0
+pub weight-unmarked : (word : ℕ) (rates : List ℕ) (id : ℕ) → marked word id ≡ false → weightAt word rates id ≡ 0
 unfolding weightAt
 weight-unmarked word rates id e = rw e
 
@@ -56,7 +56,7 @@ rest-unmarked word rest marks =
 rest-kept : (word rest : ℕ) → RestOf word rest → (j : ℕ) → j ≢ firstOf word → marked word j ≡ marked rest j
 rest-kept word rest marks j n = sym (marks j ∙ rw (ne-eqb j (firstOf word) n, and-true))
 
-rest-first : (word rest : ℕ) → RestOf word rest → firstOf word < ids → firstOf word < firstOf rest
+pub rest-first : (word rest : ℕ) → RestOf word rest → firstOf word < ids → firstOf word < firstOf rest
 rest-first word rest marks l =
     lt-of-not-le (λ (g : firstOf rest ≤ firstOf word).
     let at : marked rest (firstOf rest) ≡ true = firstFrom-holds ids (marked rest) (omega arith) in
@@ -64,107 +64,105 @@ rest-first word rest marks l =
     ⊎-elim (λ (e : firstOf rest ≡ firstOf word). true-false at (ap (marked rest) e ∙ rest-unmarked word rest marks))
     (λ q. true-false was (firstFrom-before ids (marked word) (firstOf rest) q)) (eq-or-lt-of-le g))
 
--- ---- the walk: word and table, and a bound b on the rates that it meets
+-- ---- the walk over a word, by a table of rates of which those that it meets are at most b
 
-module _ (word : ℕ) (rates : List ℕ) (b : ℕ) where
-  -- `sum` is what the marks of the word weigh that are not left any more, one for each id at most
-  pub record Walked (left sum : ℕ) : Type 0 where
-    pub fits : left < 2 ^ ids
-    pub small : sum ≤ firstOf left * b
-    pub sums : (n : ℕ) → firstOf left ≤ n → sum + sumBelow n (weightAt left rates) ≡ sumBelow n (weightAt word rates)
+-- `sum` is what the marks of the word weigh that are not left any more, one for each id at most
+pub record Walked (word : ℕ) (rates : List ℕ) (b left sum : ℕ) : Type 0 where
+  pub fits : left < 2 ^ ids
+  pub small : sum ≤ firstOf left * b
+  pub sums : (n : ℕ) → firstOf left ≤ n → sum + sumBelow n (weightAt left rates) ≡ sumBelow n (weightAt word rates)
 
-  pub walked-start : word < 2 ^ ids → Walked word 0
-  walked-start h = record { fits = h; small = zero-le; sums = λ n l. zero-add (sumBelow n (weightAt word rates)) }
+-- a turn of the walk: the first mark left, and its rate
+pub record Turn (word : ℕ) (rates : List ℕ) (b left sum id rate : ℕ) : Type 0 where
+  pub more : 0 < left
+  pub walked : Walked word rates b left sum
+  pub at : id ≡ firstOf left
+  pub of : rate ≡ getD rates id 0
+  pub bound : rate ≤ b
 
+pub walked-start : (word : ℕ) (rates : List ℕ) (b : ℕ) → word < 2 ^ ids → Walked word rates b word 0
+walked-start word rates b h = record {
+  fits = h;
+  small = zero-le;
+  sums = λ n l. zero-add (sumBelow n (weightAt word rates));
+}
+
+module _ {word : ℕ} {rates : List ℕ} {b left sum : ℕ} (walked : Walked word rates b left sum) where
   -- the marks passed weigh what the word weighs below the first mark left
-  pub walked-reached : (left sum : ℕ) → Walked left sum → sum ≡ sumBelow (firstOf left) (weightAt word rates)
-  walked-reached left sum walked =
+  pub walked-reached : sum ≡ sumBelow (firstOf left) (weightAt word rates)
+  walked-reached =
       let none : sumBelow (firstOf left) (weightAt left rates) ≡ 0 =
       sumBelow-none (firstOf left) (weightAt left rates)
       (λ j l. weight-unmarked left rates j (firstFrom-before ids (marked left) j l)) in
       omega (arith, walked .sums (firstOf left) (le-refl (firstOf left)))
 
   -- and all of it once no mark is left
-  pub walked-all : (left sum : ℕ) → left ≡ 0 → Walked left sum → sum ≡ sumBelow ids (weightAt word rates)
-  walked-all left sum e walked =
-      walked-reached left sum walked ∙ ap (λ (n : ℕ). sumBelow n (weightAt word rates)) (first-none left e)
+  pub walked-all : left ≡ 0 → sum ≡ sumBelow ids (weightAt word rates)
+  walked-all e = walked-reached ∙ ap (λ (n : ℕ). sumBelow n (weightAt word rates)) (first-none left e)
 
-  -- a turn of the walk: the first mark left, and its rate
-  pub record Turn (left sum id rate : ℕ) : Type 0 where
-    pub more : 0 < left
-    pub walked : Walked left sum
-    pub at : id ≡ firstOf left
-    pub of : rate ≡ getD rates id 0
-    pub bound : rate ≤ b
+  module _ (target : ℕ) (under : sum ≤ target) where
+    -- if no id passed exceeds the target, the first mark left is drawn where it does, or where none is left
+    walked-drawn : (firstOf left < ids → target < sumBelow (suc (firstOf left)) (weightAt word rates))
+        → firstOf left ≡ drawnAt (weightAt word rates) target
+    unfolding drawnAt
+    walked-drawn over =
+        sym (firstFrom-is ids (λ id. ltb target (sumBelow (suc id) (weightAt word rates))) (firstOf left)
+        (firstFrom-le ids (marked left))
+        (λ l. lt-ltb _ _ (over l))
+        (λ j l. le-ltb _ _ (before j l)))
+      where
+        before : (j : ℕ) → j < firstOf left → sumBelow (suc j) (weightAt word rates) ≤ target
+        before j l = omega (arith, walked-reached, sumBelow-mono (weightAt word rates) (suc j) (firstOf left) l)
 
-  module _ (left sum id rate : ℕ) (turn : Turn left sum id rate) where
-    turn-lt : firstOf left < ids
-    turn-lt = marked-first-lt ids left (turn .more) (turn .walked .fits)
+    pub walked-none : left ≡ 0 → ids ≡ drawnAt (weightAt word rates) target
+    walked-none e =
+        let none : firstOf left ≡ ids = first-none left e in
+        sym none ∙ walked-drawn (λ l. absurd (omega arith))
 
-    turn-weight : weightAt left rates (firstOf left) ≡ rate
-    turn-weight =
-        weight-marked left rates (firstOf left) (marked-first ids left (turn .more) (turn .walked .fits))
-        ∙ sym (turn .of ∙ ap (λ (j : ℕ). getD rates j 0) (turn .at))
+module _ {word : ℕ} {rates : List ℕ} {b left sum id rate : ℕ} (turn : Turn word rates b left sum id rate) where
+  turn-lt : firstOf left < ids
+  turn-lt = marked-first-lt ids left (turn .more) (turn .walked .fits)
 
-    -- with it the sum is the running sum at that id
-    pub turn-reached : sum + rate ≡ sumBelow (suc (firstOf left)) (weightAt word rates)
-    unfolding sumBelow
-    turn-reached =
-        let passed = turn .walked .sums in
-        omega (
-          arith,
-          turn-weight,
-          walked-reached left sum (turn .walked),
-          passed (firstOf left) (le-refl (firstOf left)),
-          passed (suc (firstOf left)) (le-suc (firstOf left)),
-        )
+  turn-weight : weightAt left rates (firstOf left) ≡ rate
+  turn-weight =
+      weight-marked left rates (firstOf left) (marked-first ids left (turn .more) (turn .walked .fits))
+      ∙ sym (turn .of ∙ ap (λ (j : ℕ). getD rates j 0) (turn .at))
 
-    -- a rate for each id up to that one
-    turn-bound : sum + rate ≤ suc (firstOf left) * b
-    turn-bound = omega (arith, turn .walked .small, turn .bound, suc-mul (firstOf left) b)
+  -- with its rate the sum is the running sum at that id
+  turn-reached : sum + rate ≡ sumBelow (suc (firstOf left)) (weightAt word rates)
+  unfolding sumBelow
+  turn-reached =
+      let passed = turn .walked .sums in
+      omega (
+        arith,
+        turn-weight,
+        walked-reached (turn .walked),
+        passed (firstOf left) (le-refl (firstOf left)),
+        passed (suc (firstOf left)) (le-suc (firstOf left)),
+      )
 
-    pub turn-small : sum + rate ≤ ids * b
-    turn-small = le-trans turn-bound (mul-le-mul-right b turn-lt)
+  -- and is b for each id at most
+  turn-bound : sum + rate ≤ suc (firstOf left) * b
+  turn-bound = omega (arith, turn .walked .small, turn .bound, suc-mul (firstOf left) b)
 
-    -- and the walk goes on with the rest
-    pub turn-rest : (rest : ℕ) → RestOf left rest → rest < left → Walked rest (sum + rate)
-    turn-rest rest marks falls =
-        let past : firstOf left < firstOf rest = rest-first left rest marks turn-lt in
-        record {
-          fits = omega (arith, turn .walked .fits);
-          small = le-trans turn-bound (mul-le-mul-right b past);
-          sums = λ n h.
-              let less : sumBelow n (weightAt left rates) ≡ weightAt left rates (firstOf left) + sumBelow n (weightAt rest rates) =
-              sumBelow-without (weightAt left rates) (weightAt rest rates) (firstOf left)
-              (weight-unmarked rest rates (firstOf left) (rest-unmarked left rest marks))
-              (λ j q. weight-kept left rest rates j (rest-kept left rest marks j q)) n (omega arith) in
-              omega (arith, turn .walked .sums n (omega arith), turn-weight);
-        }
+  pub turn-small : sum + rate ≤ ids * b
+  turn-small = le-trans turn-bound (mul-le-mul-right b turn-lt)
 
-  -- ---- the draw
+  -- the walk goes on with the rest
+  pub turn-rest : (rest : ℕ) → RestOf left rest → rest < left → Walked word rates b rest (sum + rate)
+  turn-rest rest marks falls =
+      let past : firstOf left < firstOf rest = rest-first left rest marks turn-lt in
+      record {
+        fits = omega (arith, turn .walked .fits);
+        small = le-trans turn-bound (mul-le-mul-right b past);
+        sums = λ n h.
+            let less : sumBelow n (weightAt left rates) ≡ weightAt left rates (firstOf left) + sumBelow n (weightAt rest rates) =
+            sumBelow-without (weightAt left rates) (weightAt rest rates) (firstOf left)
+            (weight-unmarked rest rates (firstOf left) (rest-unmarked left rest marks))
+            (λ j q. weight-kept left rest rates j (rest-kept left rest marks j q)) n (omega arith) in
+            omega (arith, turn .walked .sums n (omega arith), turn-weight);
+      }
 
-  -- if no id passed exceeds the target, the first mark left is drawn where it does, or where none is left
-  pub drawn-is : (left sum target : ℕ) → Walked left sum → sum ≤ target
-      → (firstOf left < ids → target < sumBelow (suc (firstOf left)) (weightAt word rates))
-      → drawnAt (weightAt word rates) target ≡ firstOf left
-  unfolding drawnAt
-  drawn-is left sum target walked under over =
-      firstFrom-is ids (λ id. ltb target (sumBelow (suc id) (weightAt word rates))) (firstOf left)
-      (firstFrom-le ids (marked left))
-      (λ l. lt-ltb _ _ (over l))
-      (λ j l. le-ltb _ _ (before j l))
-    where
-      before : (j : ℕ) → j < firstOf left → sumBelow (suc j) (weightAt word rates) ≤ target
-      before j l =
-          omega (arith, walked-reached left sum walked, sumBelow-mono (weightAt word rates) (suc j) (firstOf left) l)
-
-  pub drawn-none : (left sum target : ℕ) → left ≡ 0 → Walked left sum → sum ≤ target
-      → ids ≡ drawnAt (weightAt word rates) target
-  drawn-none left sum target e walked under =
-      let none : firstOf left ≡ ids = first-none left e in
-      sym (drawn-is left sum target walked under (λ l. absurd (omega arith)) ∙ none)
-
-  pub drawn-turn : (left sum id rate target : ℕ) → Turn left sum id rate → sum ≤ target → target < sum + rate
-      → id ≡ drawnAt (weightAt word rates) target
-  drawn-turn left sum id rate target turn under over =
-      turn .at ∙ sym (drawn-is left sum target (turn .walked) under (λ l. omega (arith, turn-reached left sum id rate turn)))
+  -- or ends at the id drawn
+  pub turn-drawn : (target : ℕ) → sum ≤ target → target < sum + rate → id ≡ drawnAt (weightAt word rates) target
+  turn-drawn target under over = turn .at ∙ walked-drawn (turn .walked) target under (λ l. omega (arith, turn-reached))

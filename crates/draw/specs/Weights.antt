@@ -1,5 +1,5 @@
--- What an id weighs in a draw among marked ids (paper 01: "An id that is not in the draw weighs 0").
--- The first numbers of the table are the rates by id.
+-- What an id weighs in a draw among the marked ids: its rate, which stands at its place in the table, and nothing if it has
+-- no mark, so that it is never drawn.
 use Prim.Native.Nat.{ℕ}
 use mathlib.Core.Bool.{cond}
 use mathlib.Core.List.{List}

@@ -23,8 +23,8 @@ pub fn total(word: u64, rates: &[u32; 384]) -> u64
     let mut left = word;
     let mut sum: u64 = 0;
     while left != 0 {
-        let id = marks::first(left);
-        sum += wide(rates[id as usize]);
+        let at = marks::first(left);
+        sum += wide(rates[at as usize]);
         left = marks::rest(left);
     }
     sum
@@ -36,11 +36,11 @@ pub fn pick(word: u64, rates: &[u32; 384], target: u32) -> u32
 {
     let limit = target as u64;
     let mut left = word;
-    let mut sum: u64 = 0;
+    let mut reached: u64 = 0;
     while left != 0 {
         let id = marks::first(left);
-        sum += wide(rates[id as usize]);
-        if limit < sum {
+        reached += wide(rates[id as usize]);
+        if limit < reached {
             return id;
         }
         left = marks::rest(left);

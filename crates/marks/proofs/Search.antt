@@ -1,9 +1,10 @@
--- Laws of the definitions' two searches through the ids, for any test: the first id at which it holds, and whether there is one.
--- Both are taken from the lowest id up, as a word's digits are, and then each law is an induction on the number of ids. Assumes nothing.
+-- Laws of the definitions' two searches through the ids, for any test: the first id at which it holds, and whether there is
+-- one. Both are taken from the lowest id up, as a word's digits are, and each law is an induction on how many ids there are.
+-- Assumes nothing.
 use Prim.Native.Nat.{ℕ, zero, suc, _≤_, _<_, zero-le, suc-le-suc}
-use mathlib.Core.Path.{_≡_, refl, ap, _∙_}
+use mathlib.Core.Path.{_≡_, refl, ap, ap₂, _∙_}
 use mathlib.Core.Bool.{Bool, true, false, cond, _||_, or-assoc}
-use native.Mathlib.Nat.{le-of-suc-le-suc, not-suc-le-zero, le-antisymm, lt-of-not-le}
+use native.Mathlib.Nat.{le-of-suc-le-suc, not-suc-le-zero, le-antisymm, le-refl, lt-of-lt-of-le, lt-of-not-le}
 use native.Mathlib.Omega.{arith}
 use Rattle.definitions.proofs.Laws.Tests.{true-false}
 use Rattle.definitions.specs.Draw.{firstFrom}
@@ -81,7 +82,15 @@ firstFrom-is n test at l holds before =
     le-antisymm
     (le-of-suc-le-suc (lt-of-not-le (λ (p : at < firstFrom 0 n test).
     true-false (holds (omega (arith, firstFrom-le n test))) (firstFrom-before n test at p))))
-    (le-of-suc-le-suc (lt-of-not-le (λ (p : firstFrom 0 n test < at). true-false (firstFrom-holds n test (omega arith)) (before _ p))))
+    (le-of-suc-le-suc (lt-of-not-le (λ (p : firstFrom 0 n test < at).
+    true-false (firstFrom-holds n test (omega arith)) (before _ p))))
+
+-- tests that agree on the ids find the same one
+pub firstFrom-cong : (n : ℕ) (f g : ℕ → Bool) → ((j : ℕ) → j < n → f j ≡ g j) → firstFrom 0 n f ≡ firstFrom 0 n g
+firstFrom-cong n f g same =
+    firstFrom-is n f (firstFrom 0 n g) (firstFrom-le n g)
+    (λ l. same _ l ∙ firstFrom-holds n g l)
+    (λ j l. same j (lt-of-lt-of-le l (firstFrom-le n g)) ∙ firstFrom-before n g j l)
 
 -- ---- whether there is one
 
@@ -94,3 +103,9 @@ anyBelow-suc zero test = go (test 0)
     go false = refl
 anyBelow-suc (suc n) test =
     ap (λ (b : Bool). b || test (suc n)) (anyBelow-suc n test) ∙ or-assoc (test 0) (anyBelow n (λ j. test (suc j))) (test (suc n))
+
+pub anyBelow-cong : (n : ℕ) (f g : ℕ → Bool) → ((j : ℕ) → j < n → f j ≡ g j) → anyBelow n f ≡ anyBelow n g
+unfolding anyBelow
+anyBelow-cong zero f g same = refl
+anyBelow-cong (suc n) f g same =
+    ap₂ _||_ (anyBelow-cong n f g (λ j l. same j (omega arith))) (same n (le-refl (suc n)))

@@ -51,7 +51,8 @@ module _ (id : ℕ) where
   unfolding ring
   ring-same a b zero e = refl
   ring-same a b (suc n) e =
-      ap₂ (λ (x : ℕ) (xs : List ℕ). x ∷ xs) (ap (λ (x : ℕ). id * places + x) e) (ring-same (suc a) (suc b) n (remainder-suc a b e))
+      ap₂ (λ (x : ℕ) (xs : List ℕ). x ∷ xs) (ap (λ (x : ℕ). id * places + x) e)
+      (ring-same (suc a) (suc b) n (remainder-suc a b e))
 
   pub ring-remainder : (head n : ℕ) → ring id (head % places) n ≡ ring id head n
   ring-remainder head n = ring-same (head % places) head n (remainder-again head)

@@ -44,7 +44,8 @@ module _ (c : Control) (t : Tables) (old : Shape c t) (id : ℕ) (below : id < i
   raised-size : length (raised (t .clients) id) ≡ 6 * ids
   raised-size = length-set (t .clients) _ _ ∙ old .sizes .clients
 
-  raised-own : (m : ℕ) → field m (raised (t .clients) id) id ≡ cond (eqb m 5) (countAt (t .clients) id + 1) (field m (t .clients) id)
+  raised-own : (m : ℕ) → field m (raised (t .clients) id) id
+      ≡ cond (eqb m 5) (countAt (t .clients) id + 1) (field m (t .clients) id)
   unfolding ids
   raised-own m = field-own (t .clients) 5 m id (countAt (t .clients) id + 1) below (omega (arith, old .sizes .clients))
 
@@ -74,7 +75,8 @@ module _ (c : Control) (t : Tables) (old : Shape c t) (id : ℕ) (below : id < i
   unfolding ids
   paid-own m =
       rw (← raised-level)
-      (field-own (raised (t .clients) id) 2 m id (levelAt (raised (t .clients) id) id - shares) below (omega (arith, raised-size)))
+      (field-own (raised (t .clients) id) 2 m id (levelAt (raised (t .clients) id) id - shares) below
+      (omega (arith, raised-size)))
 
   pub counted-indifferent : isIndifferent (kindAt c id) ≡ true → Counted c t id (paid (raised (t .clients) id) id)
   counted-indifferent owes = record {
@@ -95,20 +97,22 @@ module _ (c : Control) (t : Tables) (old : Shape c t) (id : ℕ) (below : id < i
     abbrev place : ℕ
     place = freePlace t id
 
+    within : place < sentinel
+    within = place-within id below (headAt (t .clients) id + countAt (t .clients) id)
+
     -- the free place stands nowhere in the order
     place-absent : Absent place (old .order)
     place-absent =
         placesOf-absent id place (old .order) (place-own t id)
         (rw (old .placed id below, owes) (ring-free id (headAt (t .clients) id) (countAt (t .clients) id) room))
 
-    pub lined-indifferent : (links : List ℕ) → Sound links
-        → ((order : List ℕ) → Ordered (t .links) order → Absent (freePlace t id) order → freePlace t id < sentinel
-        → Ordered links (order ++ (freePlace t id ∷ [])))
+    pub lined-indifferent : (links : List ℕ) (pushed : ℕ) → pushed ≡ freePlace t id → Sound links
+        → ((order : List ℕ) → Ordered (t .links) order → Absent pushed order → pushed < sentinel
+        → Ordered links (order ++ (pushed ∷ [])))
         → Lined c t id (old .order) links
-    lined-indifferent links sound push = record {
+    lined-indifferent links pushed e sound push = record {
       sound = sound;
-      ordered = rw owes
-          (push (old .order) (old .ordered) place-absent (place-within id below (headAt (t .clients) id + countAt (t .clients) id)));
+      ordered = rw (owes, ← e) (push (old .order) (old .ordered) (rw e place-absent) (rw e within));
     }
 
 module _ (c : Control) (t : Tables) (valid : Valid c t) (id : ℕ) (p : Packet) where
@@ -149,7 +153,8 @@ module _ (c : Control) (t : Tables) (valid : Valid c t) (id : ℕ) (p : Packet) 
         → Meets (Arrive id p) c t r (arrivedTables t id p clients links)
     unfolding arrives
     arrive-accepted clients links waiting counted lined marks r e =
-        accepted-with (Arrive id p) (arrives id p) c t valid none r (waitingControl c waiting) (arrivedTables t id p clients links) e
+        accepted-with (Arrive id p) (arrives id p) c t valid none r (waitingControl c waiting)
+        (arrivedTables t id p clients links) e
         (opened (Arrive id p) (arrives id p) c t valid none)
         (arrived-state c t (arrive-sound .shape) id p arrive-below arrive-room clients links waiting counted lined marks)
         (arrived-shape c t (arrive-sound .shape) id p arrive-below arrive-room clients links waiting counted lined marks)

@@ -122,7 +122,9 @@ module _ (c : Control) (t : Tables) (old : Shape c t) (id : ℕ) (p : Packet) (b
   free = ring-free id (headAt (t .clients) id) (countAt (t .clients) id) room
 
   waiting-same : map (packetAt after) taken ≡ map (packetAt t) taken
-  waiting-same = packets-same t after taken (all-map (λ q. place ≢ q) (λ q. packetAt after q ≡ packetAt t q) packet-other taken free)
+  waiting-same =
+      packets-same t after taken
+      (all-map (λ q. place ≢ q) (λ q. packetAt after q ≡ packetAt t q) packet-other taken free)
 
   queue-after : queueAt after id ≡ queueAt t id ++ (p ∷ [])
   unfolding queueAt
@@ -144,7 +146,8 @@ module _ (c : Control) (t : Tables) (old : Shape c t) (id : ℕ) (p : Packet) (b
   abbrev behind : Bool → List ℕ
   behind b = cond b (old .order ++ (place ∷ [])) (old .order)
 
-  placed-after : (b : Bool) → placesOf id (old .order) ≡ cond b taken [] → placesOf id (behind b) ≡ cond b (taken ++ (place ∷ [])) []
+  placed-after : (b : Bool) → placesOf id (old .order) ≡ cond b taken []
+      → placesOf id (behind b) ≡ cond b (taken ++ (place ∷ [])) []
   placed-after true e =
       placesOf-push-own id place (old .order) (place-own t id)
       ∙ ap (λ (xs : List ℕ). xs ++ (place ∷ [])) e

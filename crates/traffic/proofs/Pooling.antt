@@ -60,7 +60,11 @@ module _ (c : Control) (t : Tables) (old : Shape c t) (id dummies : ℕ) (below 
   unfolding packetAt held clientAt
   touch = record {
     below = below;
-    sizes = record { clients = length-set (t .clients) _ _ ∙ old .sizes .clients; handles = old .sizes .handles; lengths = old .sizes .lengths };
+    sizes = record {
+      clients = length-set (t .clients) _ _ ∙ old .sizes .clients;
+      handles = old .sizes .handles;
+      lengths = old .sizes .lengths;
+    };
     only = only-set (t .clients) (t .clients) 3 id (poolAt (t .clients) id + dummies) below (λ m j l other. refl);
     packets = λ p other. refl;
     indifferents = λ j other. refl;
@@ -80,14 +84,16 @@ module _ (c : Control) (t : Tables) (old : Shape c t) (id dummies : ℕ) (below 
   pub load-shape : Shape c (loadedTables t id dummies)
   load-shape = touch-shape c t old c after id touch
 
-  pub load-state : stateOf c (loadedTables t id dummies) ≡ updated (stateOf c t) id (loaded (stateOf c t .clients id) dummies) (stateOf c t .order)
+  pub load-state : stateOf c (loadedTables t id dummies)
+      ≡ updated (stateOf c t) id (loaded (stateOf c t .clients id) dummies) (stateOf c t .order)
   unfolding stateOf updated orderOf
   load-state = λ i. record {
     threshold = c .threshold;
     discipline = c .discipline;
     generator = c .generator .value;
     clients = (touch-clients c t old c after id touch
-        ∙ ap (put (clientsOf c t) id) (client-after ∙ ap (λ (x : Client). loaded x dummies) (sym (client-own c t old id below)))) i;
+        ∙ ap (put (clientsOf c t) id)
+        (client-after ∙ ap (λ (x : Client). loaded x dummies) (sym (client-own c t old id below)))) i;
     order = orderOf t;
   }
 
@@ -117,7 +123,8 @@ module _ (c : Control) (t : Tables) (valid : Valid c t) (id dummies : ℕ) where
         leb-true (poolAt (t .clients) id + dummies) poolLimit
         (rw (lt-ltb id ids load-below) at (passed .1 .1 .1 .0))
 
-    pub load-accepted : (r : Answered) → r ≡ record { control = c; answer = Accepted } → Meets (Load id dummies) c t r (loadedTables t id dummies)
+    pub load-accepted : (r : Answered) → r ≡ record { control = c; answer = Accepted }
+        → Meets (Load id dummies) c t r (loadedTables t id dummies)
     unfolding loads
     load-accepted r e =
         accepted-with (Load id dummies) (loads id dummies) c t valid none r c (loadedTables t id dummies) e

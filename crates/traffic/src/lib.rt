@@ -33,7 +33,8 @@ const LONGEST: u32 = 1518;
 
 // The number that a load is refused with: 19, 4, 5, 11, 12.
 fn load_number(control: Control, clients: &[u32; CLIENTS], id: u32, dummies: u32) -> u32
-    ensures { λ r. ⌜ ((h l k : List ℕ) → r ≡ refusal control (tables (now (clients .entry)) h l k) (λ s. loadChecks s id dummies)) ⌝ }
+    ensures { λ r. ⌜ ((h l k : List ℕ)
+        → r ≡ refusal control (tables (now (clients .entry)) h l k) (λ s. loadChecks s id dummies)) ⌝ }
 {
     if !control.opened {
         return 19;
@@ -79,7 +80,8 @@ pub fn load(
 
 // The number that a packet is refused with: 19, 4, 5, 13, 14, 15.
 fn arrive_number(control: Control, clients: &[u32; CLIENTS], id: u32, packet: Packet) -> u32
-    ensures { λ r. ⌜ ((h l k : List ℕ) → r ≡ refusal control (tables (now (clients .entry)) h l k) (λ s. arriveChecks s id packet)) ⌝ }
+    ensures { λ r. ⌜ ((h l k : List ℕ)
+        → r ≡ refusal control (tables (now (clients .entry)) h l k) (λ s. arriveChecks s id packet)) ⌝ }
 {
     if !control.opened {
         return 19;
@@ -141,7 +143,8 @@ fn count_up(clients: &mut [u32; CLIENTS], id: u32)
 // Takes what a packet costs from an id's bucket.
 fn charge(clients: &mut [u32; CLIENTS], id: u32)
     requires { ⌜ (id < ids) × (shares ≤ levelAt (now clients) id) ⌝ }
-    ensures { λ r. ⌜ now (clients .exit) ≡ set (now (clients .entry)) (2 * ids + id) (levelAt (now (clients .entry)) id - shares) ⌝ }
+    ensures { λ r. ⌜ now (clients .exit)
+        ≡ set (now (clients .entry)) (2 * ids + id) (levelAt (now (clients .entry)) id - shares) ⌝ }
 {
     let at = (LEVEL + id) as usize;
     clients[at] = clients[at] - SHARES;

@@ -6,21 +6,22 @@ use borrow.Author.Needs.{needs}
 use Rattle.definitions.specs.Sizes.{ids}
 use Rattle.marks.specs.Marks.{marked}
 use Rattle.marks.proofs.Search.{firstFrom-le}
-use Rattle.draw.proofs.Walk.{Walked, Turn, walked-start, turn-small, turn-rest, drawn-turn, drawn-none}
+use Rattle.draw.proofs.Walk.{Walked, Turn, walked-start, walked-none, turn-small, turn-rest, turn-drawn}
 use Rattle.draw.proofs.pick.Statement.{statement}
 use Rattle.draw.proofs.pick.Tie as tie
 
 abbrev Inv-loop : tie.InvT-loop
-Inv-loop word rates target limit left₀ sum₀ left sum = Walked word rates (2 ^ 32) left sum × (sum ≤ limit)
+Inv-loop word rates target limit left₀ reached₀ left reached = Walked word rates (2 ^ 32) left reached × (reached ≤ limit)
 
 abbrev μ-loop : tie.MeasureT-loop
-μ-loop word rates target limit left₀ sum₀ left sum = left
+μ-loop word rates target limit left₀ reached₀ left reached = left
 
 -- what is known of the mark and its rate once they are read
 turn : (c : tie.After-wide Inv-loop μ-loop)
     → let loop = c .before .before .before .before .loop in
     let args = c .before .before .before .before .before .args in
-    Turn (args .word) (args .rates .now) (2 ^ 32) (loop .left) (loop .sum) (c .before .before .first .result) (c .wide .result)
+    Turn (args .word) (args .rates .now) (2 ^ 32) (loop .left) (loop .reached)
+    (c .before .before .first .result) (c .wide .result)
 turn c = record {
   more = omega (arith, c .before .before .before .loop-test .taken);
   walked = c .before .before .before .before .loop .inv .0;
@@ -49,12 +50,12 @@ element-copy-out-wide c = omega (arith, c .first .ensures, firstFrom-le 64 (mark
 wide-requires : tie.Need-wide-requires Inv-loop μ-loop
 wide-requires c κs = search needs
 
-add-sum : tie.Need-add-sum Inv-loop μ-loop
+add-reached : tie.Need-add-reached Inv-loop μ-loop
 unfolding ids
-add-sum c = omega (arith, turn-small _ _ _ _ _ _ _ (turn c))
+add-reached c = omega (arith, turn-small (turn c))
 
 returns : tie.Need-returns Inv-loop μ-loop
-returns c = drawn-turn _ _ _ _ _ _ _ _ (turn (c .before)) (c .before .before .before .before .before .loop .inv .1) (c .if1 .taken)
+returns c = turn-drawn (turn (c .before)) _ (c .before .before .before .before .before .loop .inv .1) (c .if1 .taken)
 
 rest-requires : tie.Need-rest-requires Inv-loop μ-loop
 rest-requires c κs = search needs
@@ -64,11 +65,11 @@ loop-less c = c .rest .ensures .1 (turn (c .before .before) .more)
 
 loop-again : tie.Need-loop-again Inv-loop μ-loop
 loop-again c =
-    (turn-rest _ _ _ _ _ _ _ (turn (c .before .before)) (c .rest .result) (c .rest .ensures .0) (loop-less c), c .before .if1 .left)
+    (turn-rest (turn (c .before .before)) (c .rest .result) (c .rest .ensures .0) (loop-less c), c .before .if1 .left)
 
 returns-2 : tie.Need-returns-2 Inv-loop μ-loop
 unfolding ids
-returns-2 c = drawn-none _ _ (2 ^ 32) _ _ _ (c .loop-test .left) (c .before .loop .inv .0) (c .before .loop .inv .1)
+returns-2 c = walked-none (c .before .loop .inv .0) _ (c .before .loop .inv .1) (c .loop-test .left)
 
 pub pick-spec : {M : Type 1} → statement M
 pick-spec =
@@ -82,7 +83,7 @@ pick-spec =
     mul-wide
     element-copy-out-wide
     wide-requires
-    add-sum
+    add-reached
     returns
     rest-requires
     loop-less

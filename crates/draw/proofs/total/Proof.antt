@@ -1,6 +1,6 @@
 -- `draw::total` meets its contract. The loop's invariant is the walk's: the sum is what the marks passed weigh, so that it is
 -- what the whole word weighs once none is left. The measure is the word, which falls with each mark. Assumes nothing.
-use Prim.Native.Nat.{_^_, _≤_}
+use Prim.Native.Nat.{_^_}
 use native.Mathlib.Omega.{arith}
 use borrow.Author.Needs.{needs}
 use Rattle.definitions.specs.Sizes.{ids}
@@ -20,7 +20,8 @@ abbrev μ-loop : tie.MeasureT-loop
 turn : (c : tie.After-wide Inv-loop μ-loop)
     → let loop = c .before .before .before .before .loop in
     let args = c .before .before .before .before .before .args in
-    Turn (args .word) (args .rates .now) (2 ^ 32) (loop .left) (loop .sum) (c .before .before .first .result) (c .wide .result)
+    Turn (args .word) (args .rates .now) (2 ^ 32) (loop .left) (loop .sum)
+    (c .before .before .first .result) (c .wide .result)
 turn c = record {
   more = omega (arith, c .before .before .before .loop-test .taken);
   walked = c .before .before .before .before .loop .inv;
@@ -51,7 +52,7 @@ wide-requires c κs = search needs
 
 add-sum : tie.Need-add-sum Inv-loop μ-loop
 unfolding ids
-add-sum c = omega (arith, turn-small _ _ _ _ _ _ _ (turn c))
+add-sum c = omega (arith, turn-small (turn c))
 
 rest-requires : tie.Need-rest-requires Inv-loop μ-loop
 rest-requires c κs = search needs
@@ -60,10 +61,10 @@ loop-less : tie.Need-loop-less Inv-loop μ-loop
 loop-less c = c .rest .ensures .1 (turn (c .before) .more)
 
 loop-again : tie.Need-loop-again Inv-loop μ-loop
-loop-again c = turn-rest _ _ _ _ _ _ _ (turn (c .before)) (c .rest .result) (c .rest .ensures .0) (loop-less c)
+loop-again c = turn-rest (turn (c .before)) (c .rest .result) (c .rest .ensures .0) (loop-less c)
 
 returns : tie.Need-returns Inv-loop μ-loop
-returns c = walked-all _ _ (2 ^ 32) (c .before .loop .left) (c .before .loop .sum) (c .loop-test .left) (c .before .loop .inv)
+returns c = walked-all (c .before .loop .inv) (c .loop-test .left)
 
 pub total-spec : {M : Type 1} → statement M
 total-spec =

@@ -99,7 +99,8 @@ push-requires c κs =
 met : (c : tie.Joined2) →
     let e = c .before .before .before .before .before .before .before .before .before in
     let a = e .before .before .before .args in
-    Counted (a .control) (entry e) (a .id) (c .if2 .clients) × Lined (a .control) (entry e) (a .id) (shape e .order) (c .if2 .links)
+    Counted (a .control) (entry e) (a .id) (c .if2 .clients)
+    × Lined (a .control) (entry e) (a .id) (shape e .order) (c .if2 .links)
 met c =
     let e = c .before .before .before .before .before .before .before .before .before in
     let a = e .before .before .before .args in
@@ -110,8 +111,8 @@ met c =
     let owes = same (c .before) ∙ w .0 .taken in (
       rw (w .5 ∙ w .2 .ensures, raised) (counted-indifferent (a .control) (entry e) (shape e) (a .id) (below e) owes),
       rw (w .6)
-          (lined-indifferent (a .control) (entry e) (shape e) (a .id) (below e) (room e) owes _ (w .4 .ensures .0)
-          (rw (free .ensures) at (w .4 .ensures .1))),
+          (lined-indifferent (a .control) (entry e) (shape e) (a .id) (below e) (room e) owes _ _ (free .ensures)
+          (w .4 .ensures .0) (w .4 .ensures .1)),
     ))
     (λ w.
     let keeps = same (c .before) ∙ w .0 .left in (

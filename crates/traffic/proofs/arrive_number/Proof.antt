@@ -2,7 +2,8 @@
 -- Assumes nothing.
 use borrow.Author.Needs.{needs}
 use borrow.Author.Tests.{lt-ltb, le-ltb, le-leb, lt-leb, not-true, not-false}
-use Prim.Native.Nat.{ℕ}
+use native.Mathlib.Omega.{arith}
+use Prim.Native.Nat.{ℕ, _≤_, _<_}
 use lib.Dec.{ltb, leb}
 use mathlib.Core.Path.{_≡_, sym, _∙_}
 use mathlib.Core.Bool.{false, cond, not, _&&_, _||_}
@@ -34,10 +35,11 @@ active-requires c κs = search needs
 returns-3 : tie.Need-returns-3
 unfolding refusal firstFailed arriveChecks activeChecks ids stateOf clientsOf clientAt
 returns-3 c h l k =
-    let start = c .before .before .before .before .before in
-    let dull : isActive (kindAt (start .args .control) (start .args .id)) ≡ false =
+    let a = c .before .before .before .before .before .args in
+    let dull : isActive (kindAt (a .control) (a .id)) ≡ false =
     sym (c .before .active .ensures) ∙ not-true (c .before .active .result) (c .if3 .taken) in
-    simp (not-false (start .args .control .opened) (c .before .before .before .if1 .left), lt-ltb (start .args .id) 64 (c .before .before .if2 .left), dull)
+    let else2 = c .before .before in
+    simp (not-false (a .control .opened) (else2 .before .if1 .left), lt-ltb (a .id) 64 (else2 .if2 .left), dull)
 
 -- once the id is known to be active
 rest : (c : tie.Else3) (h l k : List ℕ) →
@@ -56,12 +58,21 @@ rest c h l k =
 
 returns-4 : tie.Need-returns-4
 unfolding shortest
-returns-4 c h l k = sym (rest (c .before .before) h l k ∙ rw (lt-leb 64 _ (c .if4 .taken)))
+returns-4 c h l k =
+    let a = c .before .before .before .before .before .before .before .args in
+    let short : a .packet .length < shortest = omega (arith, c .if4 .taken) in
+    sym (rest (c .before .before) h l k ∙ rw (lt-leb _ _ short))
+
+long-enough : (c : tie.Else4) → shortest ≤ c .before .before .before .before .before .before .before .args .packet .length
+unfolding shortest
+long-enough c = omega (arith, c .if4 .left)
 
 returns-5 : tie.Need-returns-5
-unfolding shortest longest
+unfolding longest
 returns-5 c h l k =
-    sym (rest (c .before .before .before .before) h l k ∙ rw (le-leb 64 _ (c .before .before .if4 .left), lt-leb _ 1518 (c .if5 .taken)))
+    let a = c .before .before .before .before .before .before .before .before .before .args in
+    let long : longest < a .packet .length = omega (arith, c .if5 .taken) in
+    sym (rest (c .before .before .before .before) h l k ∙ rw (le-leb _ _ (long-enough (c .before .before)), lt-leb _ _ long))
 
 -- and the length to fit
 fits : (c : tie.Else5) (h l k : List ℕ) →
@@ -69,10 +80,12 @@ fits : (c : tie.Else5) (h l k : List ℕ) →
     refusal (a .control) (tables (a .clients .now) h l k) (λ s. arriveChecks s (a .id) (a .packet))
     ≡ cond (ltb (countAt (a .clients .now) (a .id)) places)
     (cond (not (isIndifferent (kindAt (a .control) (a .id))) || leb shares (levelAt (a .clients .now) (a .id))) 0 15) 14
-unfolding shortest longest
+unfolding longest
 fits c h l k =
+    let a = c .before .before .before .before .before .before .before .before .before .args in
+    let short-enough : a .packet .length ≤ longest = omega (arith, c .if5 .left) in
     rest (c .before .before .before .before) h l k
-    ∙ rw (le-leb 64 _ (c .before .before .if4 .left), le-leb _ 1518 (c .if5 .left))
+    ∙ rw (le-leb _ _ (long-enough (c .before .before)), le-leb _ _ short-enough)
 
 add-if6 : tie.Need-add-if6
 add-if6 c = search needs
@@ -88,7 +101,10 @@ element-copy-out-if6 c = search needs
 
 returns-6 : tie.Need-returns-6
 unfolding places field ids
-returns-6 c h l k = sym (fits (c .before .before) h l k ∙ rw (le-ltb _ 32 (c .if6 .taken)))
+returns-6 c h l k =
+    let a = c .before .before .before .before .before .before .before .before .before .before .before .args in
+    let full : places ≤ countAt (a .clients .now) (a .id) = omega (arith, c .if6 .taken) in
+    sym (fits (c .before .before) h l k ∙ rw (le-ltb _ _ full))
 
 -- and a place to be left
 room : (c : tie.After-has) (h l k : List ℕ) →
@@ -100,7 +116,8 @@ room c h l k =
     let a = c .before .before .before .before .before .before .before .before .before .before .before .before .args in
     let same : isIndifferent (kindAt (a .control) (a .id)) ≡ c .has .result =
     kind-indifferent (a .control) (a .id) ∙ sym (c .has .ensures) in
-    fits (c .before .before .before) h l k ∙ rw (lt-ltb _ 32 (c .before .if6 .left), same)
+    let left : countAt (a .clients .now) (a .id) < places = omega (arith, c .before .if6 .left) in
+    fits (c .before .before .before) h l k ∙ rw (lt-ltb _ _ left, same)
 
 has-requires : tie.Need-has-requires
 has-requires c κs = search needs
@@ -122,11 +139,19 @@ element-copy-out-if8 c = search needs
 
 returns-8 : tie.Need-returns-8
 unfolding shares field ids
-returns-8 c h l k = sym (room (c .before .before .before) h l k ∙ rw (c .before .before .if7 .left, lt-leb 1024 _ (c .if8 .taken)))
+returns-8 c h l k =
+    let has = c .before .before .before in
+    let a = has .before .before .before .before .before .before .before .before .before .before .before .before .args in
+    let poor : levelAt (a .clients .now) (a .id) < shares = omega (arith, c .if8 .taken) in
+    sym (room has h l k ∙ rw (c .before .before .if7 .left, lt-leb _ _ poor))
 
 returns-9 : tie.Need-returns-9
 unfolding shares field ids
-returns-9 c h l k = sym (room (c .before .before .before) h l k ∙ rw (c .before .before .if7 .left, le-leb 1024 _ (c .if8 .left)))
+returns-9 c h l k =
+    let has = c .before .before .before in
+    let a = has .before .before .before .before .before .before .before .before .before .before .before .before .args in
+    let pays : shares ≤ levelAt (a .clients .now) (a .id) = omega (arith, c .if8 .left) in
+    sym (room has h l k ∙ rw (c .before .before .if7 .left, le-leb _ _ pays))
 
 pub arrive-number-spec : {M : Type 1} → statement M
 arrive-number-spec =

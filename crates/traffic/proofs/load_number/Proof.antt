@@ -24,8 +24,8 @@ returns c h l k = rw (not-true (c .before .before .args .control .opened) (c .if
 returns-2 : tie.Need-returns-2
 unfolding refusal firstFailed loadChecks activeChecks ids
 returns-2 c h l k =
-    let start = c .before .before .before in
-    simp (not-false (start .args .control .opened) (c .before .if1 .left), le-ltb (start .args .id) 64 (c .if2 .taken))
+    let a = c .before .before .before .args in
+    simp (not-false (a .control .opened) (c .before .if1 .left), le-ltb (a .id) 64 (c .if2 .taken))
 
 active-requires : tie.Need-active-requires
 active-requires c κs = search needs
@@ -33,10 +33,11 @@ active-requires c κs = search needs
 returns-3 : tie.Need-returns-3
 unfolding refusal firstFailed loadChecks activeChecks ids stateOf clientsOf clientAt
 returns-3 c h l k =
-    let start = c .before .before .before .before .before in
-    let dull : isActive (kindAt (start .args .control) (start .args .id)) ≡ false =
+    let a = c .before .before .before .before .before .args in
+    let dull : isActive (kindAt (a .control) (a .id)) ≡ false =
     sym (c .before .active .ensures) ∙ not-true (c .before .active .result) (c .if3 .taken) in
-    simp (not-false (start .args .control .opened) (c .before .before .before .if1 .left), lt-ltb (start .args .id) 64 (c .before .before .if2 .left), dull)
+    let else2 = c .before .before in
+    simp (not-false (a .control .opened) (else2 .before .if1 .left), lt-ltb (a .id) 64 (else2 .if2 .left), dull)
 
 has-requires : tie.Need-has-requires
 has-requires c κs = search needs
@@ -44,12 +45,13 @@ has-requires c κs = search needs
 returns-4 : tie.Need-returns-4
 unfolding refusal firstFailed loadChecks activeChecks ids stateOf clientsOf clientAt
 returns-4 c h l k =
-    let start = c .before .before .before .before .before .before .before in
-    let alert : isActive (kindAt (start .args .control) (start .args .id)) ≡ true =
-    sym (c .before .before .before .active .ensures) ∙ not-false (c .before .before .before .active .result) (c .before .before .if3 .left) in
-    let plain : isIndifferent (kindAt (start .args .control) (start .args .id)) ≡ true =
-    kind-indifferent (start .args .control) (start .args .id) ∙ sym (c .before .has .ensures) ∙ c .if4 .taken in
-    simp (not-false (start .args .control .opened) (c .before .before .before .before .before .if1 .left), lt-ltb (start .args .id) 64 (c .before .before .before .before .if2 .left), alert, plain)
+    let a = c .before .before .before .before .before .before .before .args in
+    let at = c .before .before .before in
+    let alert : isActive (kindAt (a .control) (a .id)) ≡ true =
+    sym (at .active .ensures) ∙ not-false (at .active .result) (c .before .before .if3 .left) in
+    let plain : isIndifferent (kindAt (a .control) (a .id)) ≡ true =
+    kind-indifferent (a .control) (a .id) ∙ sym (c .before .has .ensures) ∙ c .if4 .taken in
+    simp (not-false (a .control .opened) (at .before .before .if1 .left), lt-ltb (a .id) 64 (at .before .if2 .left), alert, plain)
 
 add-wide : tie.Need-add-wide
 add-wide c = search needs
@@ -76,16 +78,17 @@ returns-5 : tie.Need-returns-5
 unfolding refusal firstFailed loadChecks activeChecks ids stateOf clientsOf clientAt poolLimit field
 returns-5 c h l k =
     let e = c .before .before .before .before in
-    let start = e .before .before .before .before .before .before .before in
-    let alert : isActive (kindAt (start .args .control) (start .args .id)) ≡ true =
-    sym (e .before .before .before .active .ensures) ∙ not-false (e .before .before .before .active .result) (e .before .before .if3 .left) in
-    let plain : isIndifferent (kindAt (start .args .control) (start .args .id)) ≡ false =
-    kind-indifferent (start .args .control) (start .args .id) ∙ sym (e .before .has .ensures) ∙ e .if4 .left in
-    let past : 255 < getD (start .args .clients .now) (192 + start .args .id) 0 + start .args .dummies =
+    let a = e .before .before .before .before .before .before .before .args in
+    let at = e .before .before .before in
+    let alert : isActive (kindAt (a .control) (a .id)) ≡ true =
+    sym (at .active .ensures) ∙ not-false (at .active .result) (e .before .before .if3 .left) in
+    let plain : isIndifferent (kindAt (a .control) (a .id)) ≡ false =
+    kind-indifferent (a .control) (a .id) ∙ sym (e .before .has .ensures) ∙ e .if4 .left in
+    let past : 255 < getD (a .clients .now) (192 + a .id) 0 + a .dummies =
     omega (arith, c .if5 .taken, c .before .wide2 .ensures, c .before .before .wide .ensures) in
     simp (
-      not-false (start .args .control .opened) (e .before .before .before .before .before .if1 .left),
-      lt-ltb (start .args .id) 64 (e .before .before .before .before .if2 .left),
+      not-false (a .control .opened) (at .before .before .if1 .left),
+      lt-ltb (a .id) 64 (at .before .if2 .left),
       alert,
       plain,
       lt-leb _ _ past,
@@ -95,16 +98,17 @@ returns-6 : tie.Need-returns-6
 unfolding refusal firstFailed loadChecks activeChecks ids stateOf clientsOf clientAt poolLimit field
 returns-6 c h l k =
     let e = c .before .before .before .before in
-    let start = e .before .before .before .before .before .before .before in
-    let alert : isActive (kindAt (start .args .control) (start .args .id)) ≡ true =
-    sym (e .before .before .before .active .ensures) ∙ not-false (e .before .before .before .active .result) (e .before .before .if3 .left) in
-    let plain : isIndifferent (kindAt (start .args .control) (start .args .id)) ≡ false =
-    kind-indifferent (start .args .control) (start .args .id) ∙ sym (e .before .has .ensures) ∙ e .if4 .left in
-    let fits : getD (start .args .clients .now) (192 + start .args .id) 0 + start .args .dummies ≤ 255 =
+    let a = e .before .before .before .before .before .before .before .args in
+    let at = e .before .before .before in
+    let alert : isActive (kindAt (a .control) (a .id)) ≡ true =
+    sym (at .active .ensures) ∙ not-false (at .active .result) (e .before .before .if3 .left) in
+    let plain : isIndifferent (kindAt (a .control) (a .id)) ≡ false =
+    kind-indifferent (a .control) (a .id) ∙ sym (e .before .has .ensures) ∙ e .if4 .left in
+    let fits : getD (a .clients .now) (192 + a .id) 0 + a .dummies ≤ 255 =
     omega (arith, c .if5 .left, c .before .wide2 .ensures, c .before .before .wide .ensures) in
     simp (
-      not-false (start .args .control .opened) (e .before .before .before .before .before .if1 .left),
-      lt-ltb (start .args .id) 64 (e .before .before .before .before .if2 .left),
+      not-false (a .control .opened) (at .before .before .if1 .left),
+      lt-ltb (a .id) 64 (at .before .if2 .left),
       alert,
       plain,
       le-leb _ _ fits,

@@ -1,0 +1,259 @@
+/* The slot core of paper 01 in plain C. Nothing is on the heap, and every call but join, change
+   and leave takes constant time, besides one walk over marks in a draw and one in the refill. */
+#include "plain.h"
+
+enum {
+    FULL_LINK = 1024, /* shares of the link; also the tokens of one packet */
+    MAX_BURST = 64,
+    MAX_POOL = 255,
+    MIN_LENGTH = 64,
+    MAX_LENGTH = 1518,
+    ORDER_END = PLAIN_PLACES,
+    REFILL_GROUP = 8, /* ids refilled together, as two vectors */
+};
+
+static inline uint64_t mark(uint32_t id) { return UINT64_C(1) << id; }
+
+static inline bool active(const plain_core *core, uint32_t id) {
+    return (core->indifferent | core->private) & mark(id);
+}
+
+/* The order of acceptance */
+
+static inline void order_push(plain_core *core, uint32_t place) {
+    uint16_t last = core->prev[ORDER_END];
+    core->next[last] = (uint16_t)place;
+    core->prev[place] = last;
+    core->next[place] = ORDER_END;
+    core->prev[ORDER_END] = (uint16_t)place;
+}
+
+static inline void order_unlink(plain_core *core, uint32_t place) {
+    uint16_t before = core->prev[place], after = core->next[place];
+    core->next[before] = after;
+    core->prev[after] = before;
+}
+
+/* The queues */
+
+static inline uint32_t place_of(uint32_t id, uint32_t ring) {
+    return id * PLAIN_DEPTH + ring % PLAIN_DEPTH;
+}
+
+static inline void queue_push(plain_core *core, uint32_t id, plain_packet packet, bool indifferent) {
+    uint32_t place = place_of(id, (uint32_t)core->head[id] + core->count[id]);
+    core->packet[place] = packet;
+    if (indifferent) {
+        if (core->count[id] == 0) core->waiting_rates += (uint32_t)core->rate[id];
+        if (core->discipline == 0) order_push(core, place);
+    }
+    core->waiting |= mark(id);
+    core->count[id]++;
+}
+
+static inline plain_packet queue_pop(plain_core *core, uint32_t id, bool indifferent) {
+    uint32_t place = place_of(id, core->head[id]);
+    core->head[id] = (uint8_t)((core->head[id] + 1) % PLAIN_DEPTH);
+    if (--core->count[id] == 0) {
+        core->waiting &= ~mark(id);
+        if (indifferent) core->waiting_rates -= (uint32_t)core->rate[id];
+    }
+    if (indifferent && core->discipline == 0) order_unlink(core, place);
+    return core->packet[place];
+}
+
+/* Takes out all that the id holds but its level, and its marks and rate. */
+static void clear(plain_core *core, uint32_t id) {
+    uint32_t rate = (uint32_t)core->rate[id];
+    if (core->indifferent & mark(id)) {
+        if (core->count[id] != 0) core->waiting_rates -= rate;
+        if (core->discipline == 0)
+            for (uint32_t i = 0; i < core->count[id]; i++)
+                order_unlink(core, place_of(id, core->head[id] + i));
+    } else {
+        core->private_rates -= rate;
+    }
+    core->rates -= rate;
+    core->indifferent &= ~mark(id);
+    core->private &= ~mark(id);
+    core->waiting &= ~mark(id);
+    core->rate[id] = core->level[id] = core->cap[id] = 0;
+    core->pool[id] = core->head[id] = core->count[id] = 0;
+}
+
+/* Puts a client with an empty queue and pool, and a full bucket, where none is. */
+static void settle(plain_core *core, uint32_t id, uint32_t type, uint32_t rate, uint32_t burst) {
+    if (type == PLAIN_INDIFFERENT) {
+        core->indifferent |= mark(id);
+    } else {
+        core->private |= mark(id);
+        core->private_rates += rate;
+    }
+    core->rates += rate;
+    core->rate[id] = (int32_t)rate;
+    core->cap[id] = core->level[id] = (int32_t)burst * FULL_LINK;
+}
+
+/* Checks 7 to 10 of join and change; held: the rates of the other clients. */
+static uint32_t check_terms(const plain_core *core, uint32_t held, uint32_t type, uint32_t rate,
+                            uint32_t burst) {
+    if (type != PLAIN_INDIFFERENT && type != PLAIN_PRIVATE) return 7;
+    if (rate - 1 >= FULL_LINK) return 8;
+    if (type == PLAIN_INDIFFERENT ? burst - 1 >= MAX_BURST : burst != 0) return 9;
+    return held + rate > core->threshold ? 10 : 0;
+}
+
+/* The calls */
+
+uint32_t plain_open(plain_core *core, uint32_t threshold, uint32_t discipline, uint32_t seed) {
+    if (threshold - 1 >= FULL_LINK) return 1;
+    if (discipline > 1) return 2;
+    if (seed == 0) return 3;
+    *core = (plain_core){.threshold = threshold, .discipline = discipline, .generator = seed};
+    core->next[ORDER_END] = core->prev[ORDER_END] = ORDER_END;
+    return 0;
+}
+
+uint32_t plain_join(plain_core *core, uint32_t id, uint32_t type, uint32_t rate, uint32_t burst) {
+    if (core->threshold == 0) return 19;
+    if (id >= PLAIN_CLIENTS) return 4;
+    if (active(core, id)) return 6;
+    uint32_t refused = check_terms(core, core->rates, type, rate, burst);
+    if (refused) return refused;
+    settle(core, id, type, rate, burst);
+    return 0;
+}
+
+/* A change that keeps the type keeps queue and pool; the level comes down to the new cap. */
+static void retune(plain_core *core, uint32_t id, uint32_t rate, uint32_t burst) {
+    uint32_t gain = rate - (uint32_t)core->rate[id]; /* wraps when the rate falls */
+    core->rates += gain;
+    if (core->private & mark(id)) core->private_rates += gain;
+    else if (core->waiting & mark(id)) core->waiting_rates += gain;
+    core->rate[id] = (int32_t)rate;
+    core->cap[id] = (int32_t)burst * FULL_LINK;
+    if (core->level[id] > core->cap[id]) core->level[id] = core->cap[id];
+}
+
+uint32_t plain_change(plain_core *core, uint32_t id, uint32_t type, uint32_t rate, uint32_t burst) {
+    if (core->threshold == 0) return 19;
+    if (id >= PLAIN_CLIENTS) return 4;
+    if (!active(core, id)) return 5;
+    uint32_t refused = check_terms(core, core->rates - (uint32_t)core->rate[id], type, rate, burst);
+    if (refused) return refused;
+    bool indifferent = core->indifferent & mark(id);
+    if (indifferent == (type == PLAIN_INDIFFERENT)) {
+        retune(core, id, rate, burst);
+    } else {
+        clear(core, id);
+        settle(core, id, type, rate, burst);
+    }
+    return 0;
+}
+
+uint32_t plain_leave(plain_core *core, uint32_t id) {
+    if (core->threshold == 0) return 19;
+    if (id >= PLAIN_CLIENTS) return 4;
+    if (!active(core, id)) return 5;
+    clear(core, id);
+    return 0;
+}
+
+uint32_t plain_load(plain_core *core, uint32_t id, uint32_t dummies) {
+    if (core->threshold == 0) return 19;
+    if (id >= PLAIN_CLIENTS) return 4;
+    if (!active(core, id)) return 5;
+    if (core->indifferent & mark(id)) return 11;
+    if (dummies > MAX_POOL - (uint32_t)core->pool[id]) return 12;
+    core->pool[id] = (uint8_t)(core->pool[id] + dummies);
+    return 0;
+}
+
+uint32_t plain_arrive(plain_core *core, uint32_t id, uint32_t handle, uint32_t length) {
+    if (core->threshold == 0) return 19;
+    if (id >= PLAIN_CLIENTS) return 4;
+    if (!active(core, id)) return 5;
+    if (length - MIN_LENGTH > MAX_LENGTH - MIN_LENGTH) return 13;
+    if (core->count[id] == PLAIN_DEPTH) return 14;
+    bool indifferent = core->indifferent & mark(id);
+    if (indifferent) {
+        if (core->level[id] < FULL_LINK) return 15;
+        core->level[id] -= FULL_LINK;
+    }
+    queue_push(core, id, (plain_packet){handle, length}, indifferent);
+    return 0;
+}
+
+/* Tick */
+
+static inline uint32_t step(plain_core *core) {
+    uint32_t v = core->generator;
+    v ^= v << 13;
+    v ^= v >> 17;
+    v ^= v << 5;
+    return core->generator = v;
+}
+
+/* The id drawn among the marks, whose rates have the sum given. */
+static inline uint32_t draw(plain_core *core, uint64_t marks, uint32_t sum) {
+    int32_t target = (int32_t)(step(core) % sum);
+    for (;; marks &= marks - 1) {
+        uint32_t id = (uint32_t)__builtin_ctzll(marks);
+        target -= core->rate[id];
+        if (target < 0) return id;
+    }
+}
+
+static inline void send_indifferent(plain_core *core, uint64_t ready, plain_slot *slot) {
+    uint32_t id = core->discipline == 0 ? core->next[ORDER_END] / PLAIN_DEPTH
+                                        : draw(core, ready, core->waiting_rates);
+    plain_packet packet = queue_pop(core, id, true);
+    *slot = (plain_slot){PLAIN_REAL, id, packet.handle, packet.length, 0};
+}
+
+static inline void send_private(plain_core *core, plain_slot *slot) {
+    uint32_t id = draw(core, core->private, core->private_rates);
+    if (core->count[id] != 0) {
+        plain_packet packet = queue_pop(core, id, false);
+        *slot = (plain_slot){PLAIN_REAL, id, packet.handle, packet.length,
+                             MAX_LENGTH - packet.length};
+    } else if (core->pool[id] != 0) {
+        core->pool[id]--;
+        *slot = (plain_slot){.outcome = PLAIN_DUMMY, .id = id};
+    } else {
+        *slot = (plain_slot){.outcome = PLAIN_IDLE, .id = id};
+    }
+}
+
+/* Levels, rates or caps of four ids. */
+typedef int32_t four __attribute__((vector_size(16), aligned(4), may_alias));
+
+/* level + rate, up to cap, for a group of ids. */
+static inline void refill_group(int32_t *level, const int32_t *rate, const int32_t *cap) {
+    for (int i = 0; i < REFILL_GROUP; i += 4) {
+        four more = *(four *)(level + i) + *(const four *)(rate + i);
+        four top = *(const four *)(cap + i);
+        four below = more < top; /* all ones or all zeros */
+        *(four *)(level + i) = (more & below) | (top & ~below);
+    }
+}
+
+/* Refills the groups that have an indifferent id; the others of a group have cap 0 and stay 0. */
+static inline void refill(plain_core *core) {
+    const uint64_t group_marks = (UINT64_C(1) << REFILL_GROUP) - 1;
+    for (uint64_t marks = core->indifferent; marks != 0;) {
+        uint64_t first = (uint64_t)__builtin_ctzll(marks) / REFILL_GROUP * REFILL_GROUP;
+        refill_group(core->level + first, core->rate + first, core->cap + first);
+        marks &= ~(group_marks << first);
+    }
+}
+
+uint32_t plain_tick(plain_core *core, plain_slot *slot) {
+    if (core->threshold == 0) return 19;
+    uint64_t ready = core->waiting & core->indifferent;
+    if (ready != 0) send_indifferent(core, ready, slot);
+    else if (core->private != 0) send_private(core, slot);
+    else *slot = (plain_slot){.outcome = PLAIN_NONE};
+    refill(core);
+    return 0;
+}

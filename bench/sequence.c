@@ -1,0 +1,71 @@
+/* The benchmark's calls on the plain core. */
+#include "sequence.h"
+
+#include "plain.h"
+
+enum { BURST = 64, SHORTEST = 64, LINK = 1024, ABOVE_IDS = 64, SEED = 1 };
+
+/* What the sum takes for an answer other than a slot. */
+static inline uint64_t code_of(uint32_t refused) { return refused == 0 ? 1 : 2 + (uint64_t)refused; }
+
+static inline uint64_t code_of_slot(const plain_slot *slot) {
+    uint64_t id = slot->id;
+    switch (slot->outcome) {
+    case PLAIN_REAL:
+        return 1000 + id * 7 + (uint64_t)slot->handle * 3 + (uint64_t)slot->length * 5 +
+               (uint64_t)slot->padding * 11;
+    case PLAIN_DUMMY:
+        return 500 + id;
+    case PLAIN_IDLE:
+        return 600 + id;
+    default:
+        return 700;
+    }
+}
+
+static inline uint64_t tick_code(plain_core *core) {
+    plain_slot slot;
+    uint32_t refused = plain_tick(core, &slot);
+    return refused != 0 ? code_of(refused) : code_of_slot(&slot);
+}
+
+static void set_up(plain_core *core, uint32_t clients, uint32_t indifferents, uint32_t discipline,
+                   uint32_t depth) {
+    plain_open(core, LINK, discipline, SEED);
+    for (uint32_t id = 0; id < clients; id++) {
+        bool indifferent = id < indifferents;
+        plain_join(core, id, indifferent ? PLAIN_INDIFFERENT : PLAIN_PRIVATE, LINK / clients,
+                   indifferent ? BURST : 0);
+    }
+    for (uint32_t id = 0; id < clients; id++)
+        for (uint32_t i = 1; i < depth; i++) plain_arrive(core, id, id, SHORTEST);
+}
+
+static uint64_t run_slots(plain_core *core, uint32_t clients, uint32_t rounds) {
+    uint64_t sum = 0;
+    for (uint32_t k = 0; k < rounds; k++) {
+        sum += code_of(plain_arrive(core, k % clients, k, SHORTEST + k % 1024));
+        sum += tick_code(core);
+    }
+    return sum;
+}
+
+static uint64_t run_refused(plain_core *core, uint32_t clients, uint32_t rounds) {
+    uint64_t sum = 0;
+    for (uint32_t k = 0; k < rounds; k++) {
+        sum += code_of(plain_arrive(core, ABOVE_IDS + k % 8, k, SHORTEST));
+        sum += code_of(plain_load(core, ABOVE_IDS + k % 8, k));
+        sum += code_of(plain_join(core, k % clients, PLAIN_PRIVATE, 1, 0));
+        sum += code_of(plain_arrive(core, k % clients, k, SHORTEST - 1));
+    }
+    return sum;
+}
+
+uint64_t plain_run(uint32_t privates, uint32_t indifferents, uint32_t discipline, uint32_t depth,
+                   uint32_t mode, uint32_t rounds) {
+    plain_core core = {0};
+    uint32_t clients = privates + indifferents;
+    set_up(&core, clients, indifferents, discipline, depth);
+    return mode == MODE_SLOTS ? run_slots(&core, clients, rounds)
+                              : run_refused(&core, clients, rounds);
+}

@@ -1,0 +1,16 @@
+/* The benchmark's calls. plain_run (here) and bench_run (libbench.a) do the very same calls on
+   their own core and must return the same number. privates + indifferents is 1 to 64. */
+#ifndef SEQUENCE_H
+#define SEQUENCE_H
+
+#include <stdint.h>
+
+enum { MODE_SLOTS = 0, MODE_REFUSED = 1 };
+enum { CALLS_OF_SLOTS = 2, CALLS_OF_REFUSED = 4 }; /* calls a round */
+
+uint64_t plain_run(uint32_t privates, uint32_t indifferents, uint32_t discipline, uint32_t depth,
+                   uint32_t mode, uint32_t rounds);
+uint64_t bench_run(uint32_t privates, uint32_t indifferents, uint32_t discipline, uint32_t depth,
+                   uint32_t mode, uint32_t rounds);
+
+#endif

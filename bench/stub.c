@@ -1,0 +1,7 @@
+/* Stands in for libbench.a, to try the harness without it. */
+#include "sequence.h"
+
+uint64_t bench_run(uint32_t privates, uint32_t indifferents, uint32_t discipline, uint32_t depth,
+                   uint32_t mode, uint32_t rounds) {
+    return plain_run(privates, indifferents, discipline, depth, mode, rounds);
+}

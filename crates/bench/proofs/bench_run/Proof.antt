@@ -1,0 +1,70 @@
+-- `bench::bench_run` meets its contract: each step takes up a valid core. Assumes nothing.
+use native.Mathlib.Omega.{arith}
+use borrow.Author.Needs.{needs}
+use Rattle.bench.proofs.bench_run.Statement.{statement}
+use Rattle.bench.proofs.bench_run.Tie as tie
+use Rattle.bench.proofs.bench_run.Reads as reads
+use Rattle.bench.proofs.bench_run.Lts as lts
+use Rattle.bench.proofs.fill_queues.Reads as fill-queues-reads
+use Rattle.bench.proofs.join_all.Reads as join-all-reads
+use Rattle.bench.proofs.refused_rounds.Reads as refused-rounds-reads
+use Rattle.bench.proofs.traffic_rounds.Reads as traffic-rounds-reads
+use Rattle.opening.proofs.open.Reads as open-reads
+use Rattle.opening.proofs.unopened.Reads as unopened-reads
+
+returns : tie.Need-returns
+returns c = search needs
+
+returns-2 : tie.Need-returns-2
+returns-2 c = search needs
+
+add-n : tie.Need-add-n
+add-n c = search needs
+
+returns-3 : tie.Need-returns-3
+returns-3 c = search needs
+
+returns-4 : tie.Need-returns-4
+returns-4 c = search needs
+
+unopened-requires : tie.Need-unopened-requires
+unopened-requires c κs = search needs
+
+open-requires : tie.Need-open-requires
+open-requires c κs = c .before .before .before .before .unopened .ensures _ .1
+
+join-all-requires : tie.Need-join-all-requires
+join-all-requires c κs = search needs
+
+fill-queues-requires : tie.Need-fill-queues-requires
+fill-queues-requires c κs = search needs
+
+traffic-rounds-requires : tie.Need-traffic-rounds-requires
+traffic-rounds-requires c κs = (c .before .before .before .before .before .fill-queues .ensures, omega (arith, c .before .before .before .before .before .before .before .before .before .before .before .before .before .before .before .before .before .before .before .before .before .before .before .if3 .left))
+
+returns-5 : tie.Need-returns-5
+returns-5 c = search needs
+
+refused-rounds-requires : tie.Need-refused-rounds-requires
+refused-rounds-requires c κs = (c .before .before .before .before .before .fill-queues .ensures, omega (arith, c .before .before .before .before .before .before .before .before .before .before .before .before .before .before .before .before .before .before .before .before .before .before .before .if3 .left))
+
+returns-6 : tie.Need-returns-6
+returns-6 c = search needs
+
+pub bench-run-spec : {M : Type 1} → statement M
+bench-run-spec =
+    tie.close
+    (tie.spec
+    returns
+    returns-2
+    add-n
+    returns-3
+    returns-4
+    unopened-requires
+    open-requires
+    join-all-requires
+    fill-queues-requires
+    traffic-rounds-requires
+    returns-5
+    refused-rounds-requires
+    returns-6)

@@ -1,0 +1,41 @@
+-- `bench::fill_queue` meets its contract: the calls keep the core valid. Assumes nothing.
+use borrow.Author.Needs.{needs}
+use native.Mathlib.Omega.{arith}
+use Prim.Native.Nat.{_+_, _*_, _-_, _≤_}
+use Rattle.tables.specs.Tables.{tables}
+use Rattle.tables.specs.Invariant.{Valid}
+use Rattle.bench.proofs.fill_queue.Statement.{statement}
+use Rattle.bench.proofs.fill_queue.Tie as tie
+use Rattle.bench.proofs.fill_queue.Reads as reads
+use Rattle.bench.proofs.fill_queue.Lts as lts
+use Rattle.traffic.proofs.arrive.Reads as arrive-reads
+
+abbrev Inv-loop : tie.InvT-loop
+Inv-loop clients₀ handles₀ lengths₀ links₀ id each at₀ k₀ clients handles lengths links at k =
+    Valid at (tables clients handles lengths links) × (k ≤ each)
+
+abbrev μ-loop : tie.MeasureT-loop
+μ-loop clients₀ handles₀ lengths₀ links₀ id each at₀ k₀ clients handles lengths links at k = each - k
+
+loop-holds : tie.Need-loop-holds Inv-loop μ-loop
+loop-holds c = search needs
+
+arrive-requires : tie.Need-arrive-requires Inv-loop μ-loop
+arrive-requires c κs = search needs
+
+add-k : tie.Need-add-k Inv-loop μ-loop
+add-k c = search needs
+
+loop-less : tie.Need-loop-less Inv-loop μ-loop
+loop-less c = search needs
+
+loop-again : tie.Need-loop-again Inv-loop μ-loop
+loop-again c = search needs
+
+returns : tie.Need-returns Inv-loop μ-loop
+returns c = search needs
+
+pub fill-queue-spec : {M : Type 1} → statement M
+fill-queue-spec =
+    tie.close
+    (tie.spec Inv-loop μ-loop loop-holds arrive-requires add-k loop-less loop-again returns)

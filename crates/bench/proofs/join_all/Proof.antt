@@ -1,0 +1,62 @@
+-- `bench::join_all` meets its contract: the calls keep the core valid. Assumes nothing.
+use borrow.Author.Needs.{needs}
+use native.Mathlib.Omega.{arith}
+use Prim.Native.Nat.{_+_, _*_, _-_, _≤_}
+use Rattle.tables.specs.Tables.{tables}
+use Rattle.tables.specs.Invariant.{Valid}
+use Rattle.bench.proofs.join_all.Statement.{statement}
+use Rattle.bench.proofs.join_all.Tie as tie
+use Rattle.bench.proofs.join_all.Reads as reads
+use Rattle.bench.proofs.join_all.Lts as lts
+use Rattle.bench.proofs.choose.Reads as choose-reads
+use Rattle.settings.proofs.join.Reads as join-reads
+
+abbrev Inv-loop : tie.InvT-loop
+Inv-loop clients₀ handles lengths links n indifferents rate at₀ id₀ clients at id =
+    Valid at (tables clients handles lengths links) × (id ≤ n)
+
+abbrev μ-loop : tie.MeasureT-loop
+μ-loop clients₀ handles lengths links n indifferents rate at₀ id₀ clients at id = n - id
+
+div-rate : tie.Need-div-rate Inv-loop μ-loop
+div-rate c = search needs
+
+loop-holds : tie.Need-loop-holds Inv-loop μ-loop
+loop-holds c = search needs
+
+choose-requires : tie.Need-choose-requires Inv-loop μ-loop
+choose-requires c κs = search needs
+
+choose-requires-2 : tie.Need-choose-requires-2 Inv-loop μ-loop
+choose-requires-2 c κs = search needs
+
+join-requires : tie.Need-join-requires Inv-loop μ-loop
+join-requires c κs = search needs
+
+add-id : tie.Need-add-id Inv-loop μ-loop
+add-id c = search needs
+
+loop-less : tie.Need-loop-less Inv-loop μ-loop
+loop-less c = search needs
+
+loop-again : tie.Need-loop-again Inv-loop μ-loop
+loop-again c = search needs
+
+returns : tie.Need-returns Inv-loop μ-loop
+returns c = search needs
+
+pub join-all-spec : {M : Type 1} → statement M
+join-all-spec =
+    tie.close
+    (tie.spec
+    Inv-loop
+    μ-loop
+    div-rate
+    loop-holds
+    choose-requires
+    choose-requires-2
+    join-requires
+    add-id
+    loop-less
+    loop-again
+    returns)

@@ -1,0 +1,322 @@
+// The benchmark's sequences over the proved calls, exported to C. The same sequences stand in bench/ in C.
+use definitions::Answer;
+use definitions::Outcome;
+use definitions::Packet;
+use order::LINKS;
+use tables::CLIENTS;
+use tables::Control;
+use tables::STORE;
+ghost use Prim.Native.Nat.{_≤_};
+ghost use Rattle.tables.specs.Tables.{tables};
+ghost use Rattle.tables.specs.Invariant.{Valid};
+
+// What a stretch of calls leaves: the control, and a sum over the answers.
+pub struct Tally {
+    pub control: Control,
+    pub sum: u64,
+}
+
+// A number for each answer; the sum of them is what both implementations must agree on.
+fn code(answer: Answer) -> u64 {
+    match answer {
+        Answer::Accepted => 1,
+        Answer::Refused { number } => 2 + tables::wide(number),
+        Answer::Slot { outcome } => outcome_code(outcome),
+    }
+}
+
+fn outcome_code(outcome: Outcome) -> u64 {
+    match outcome {
+        Outcome::Real {
+            id,
+            packet,
+            padding,
+        } => {
+            1000
+                + tables::wide(id) * 7
+                + tables::wide(packet.handle) * 3
+                + tables::wide(packet.length) * 5
+                + tables::wide(padding) * 11
+        }
+        Outcome::Dummy { id } => 500 + tables::wide(id),
+        Outcome::Idle { id } => 600 + tables::wide(id),
+        Outcome::None => 700,
+    }
+}
+
+// Joins n clients at equal rates, the first of them indifferent.
+fn join_all(
+    control: Control,
+    clients: &mut [u32; CLIENTS],
+    handles: &[u32; STORE],
+    lengths: &[u32; STORE],
+    links: &[u32; LINKS],
+    n: u32,
+    indifferents: u32,
+) -> Control
+    requires { ⌜ Valid control (tables (now clients) (now handles) (now lengths) (now links)) × (1 ≤ n) ⌝ }
+    ensures { λ r. ⌜ Valid r (tables (now (clients .exit)) (now (handles .entry)) (now (lengths .entry)) (now (links .entry))) ⌝ }
+{
+    let rate = 1024 / n;
+    let mut at = control;
+    let mut id: u32 = 0;
+    while id < n {
+        let indifferent = id < indifferents;
+        let kind = choose(indifferent, 1, 2);
+        let burst = choose(indifferent, 64, 0);
+        let r = settings::join(at, clients, handles, lengths, links, id, kind, rate, burst);
+        at = r.control;
+        id += 1;
+    }
+    at
+}
+
+fn choose(first: bool, a: u32, b: u32) -> u32 {
+    if first { a } else { b }
+}
+
+// Puts some packets into one queue.
+fn fill_queue(
+    control: Control,
+    clients: &mut [u32; CLIENTS],
+    handles: &mut [u32; STORE],
+    lengths: &mut [u32; STORE],
+    links: &mut [u32; LINKS],
+    id: u32,
+    each: u32,
+) -> Control
+    requires { ⌜ Valid control (tables (now clients) (now handles) (now lengths) (now links)) ⌝ }
+    ensures { λ r. ⌜ Valid r (tables (now (clients .exit)) (now (handles .exit)) (now (lengths .exit)) (now (links .exit))) ⌝ }
+{
+    let mut at = control;
+    let mut k: u32 = 0;
+    while k < each {
+        let packet = Packet {
+            handle: id,
+            length: 64,
+        };
+        let r = traffic::arrive(at, clients, handles, lengths, links, id, packet);
+        at = r.control;
+        k += 1;
+    }
+    at
+}
+
+// Puts some packets into each queue, one client after the other.
+fn fill_queues(
+    control: Control,
+    clients: &mut [u32; CLIENTS],
+    handles: &mut [u32; STORE],
+    lengths: &mut [u32; STORE],
+    links: &mut [u32; LINKS],
+    n: u32,
+    each: u32,
+) -> Control
+    requires { ⌜ Valid control (tables (now clients) (now handles) (now lengths) (now links)) ⌝ }
+    ensures { λ r. ⌜ Valid r (tables (now (clients .exit)) (now (handles .exit)) (now (lengths .exit)) (now (links .exit))) ⌝ }
+{
+    let mut at = control;
+    let mut id: u32 = 0;
+    while id < n {
+        at = fill_queue(at, clients, handles, lengths, links, id, each);
+        id += 1;
+    }
+    at
+}
+
+fn add(sum: u64, answer: Answer) -> u64 {
+    std::num::wrapping_add_u64(sum, code(answer))
+}
+
+// Four calls that are refused.
+fn refused_round(
+    control: Control,
+    clients: &mut [u32; CLIENTS],
+    handles: &mut [u32; STORE],
+    lengths: &mut [u32; STORE],
+    links: &mut [u32; LINKS],
+    n: u32,
+    k: u32,
+    sum: u64,
+) -> Tally
+    requires { ⌜ Valid control (tables (now clients) (now handles) (now lengths) (now links)) × (1 ≤ n) ⌝ }
+    ensures { λ r. ⌜ Valid (r .control)
+        (tables (now (clients .exit)) (now (handles .exit)) (now (lengths .exit)) (now (links .exit))) ⌝ }
+{
+    let none = 64 + k % 8;
+    let id = k % n;
+    let far = Packet {
+        handle: k,
+        length: 64,
+    };
+    let short = Packet {
+        handle: k,
+        length: 63,
+    };
+    let a = traffic::arrive(control, clients, handles, lengths, links, none, far);
+    let first = a.answer;
+    let b = traffic::load(a.control, clients, handles, lengths, links, none, k);
+    let second = b.answer;
+    let c = settings::join(b.control, clients, handles, lengths, links, id, 2, 1, 0);
+    let third = c.answer;
+    let d = traffic::arrive(c.control, clients, handles, lengths, links, id, short);
+    let fourth = d.answer;
+    let last = d.control;
+    Tally {
+        control: last,
+        sum: add(add(add(add(sum, first), second), third), fourth),
+    }
+}
+
+fn refused_rounds(
+    control: Control,
+    clients: &mut [u32; CLIENTS],
+    handles: &mut [u32; STORE],
+    lengths: &mut [u32; STORE],
+    links: &mut [u32; LINKS],
+    n: u32,
+    rounds: u32,
+) -> Tally
+    requires { ⌜ Valid control (tables (now clients) (now handles) (now lengths) (now links)) × (1 ≤ n) ⌝ }
+    ensures { λ r. ⌜ Valid (r .control)
+        (tables (now (clients .exit)) (now (handles .exit)) (now (lengths .exit)) (now (links .exit))) ⌝ }
+{
+    let mut at = Tally { control, sum: 0 };
+    let mut k: u32 = 0;
+    while k < rounds {
+        at = refused_round(at.control, clients, handles, lengths, links, n, k, at.sum);
+        k += 1;
+    }
+    at
+}
+
+// One arrival and one tick.
+fn traffic_round(
+    control: Control,
+    clients: &mut [u32; CLIENTS],
+    handles: &mut [u32; STORE],
+    lengths: &mut [u32; STORE],
+    links: &mut [u32; LINKS],
+    n: u32,
+    k: u32,
+    sum: u64,
+) -> Tally
+    requires { ⌜ Valid control (tables (now clients) (now handles) (now lengths) (now links)) × (1 ≤ n) ⌝ }
+    ensures { λ r. ⌜ Valid (r .control)
+        (tables (now (clients .exit)) (now (handles .exit)) (now (lengths .exit)) (now (links .exit))) ⌝ }
+{
+    let packet = Packet {
+        handle: k,
+        length: 64 + k % 1024,
+    };
+    let a = traffic::arrive(control, clients, handles, lengths, links, k % n, packet);
+    let first = a.answer;
+    let b = slot::tick(a.control, clients, handles, lengths, links);
+    let second = b.answer;
+    let last = b.control;
+    Tally {
+        control: last,
+        sum: add(add(sum, first), second),
+    }
+}
+
+fn traffic_rounds(
+    control: Control,
+    clients: &mut [u32; CLIENTS],
+    handles: &mut [u32; STORE],
+    lengths: &mut [u32; STORE],
+    links: &mut [u32; LINKS],
+    n: u32,
+    rounds: u32,
+) -> Tally
+    requires { ⌜ Valid control (tables (now clients) (now handles) (now lengths) (now links)) × (1 ≤ n) ⌝ }
+    ensures { λ r. ⌜ Valid (r .control)
+        (tables (now (clients .exit)) (now (handles .exit)) (now (lengths .exit)) (now (links .exit))) ⌝ }
+{
+    let mut at = Tally { control, sum: 0 };
+    let mut k: u32 = 0;
+    while k < rounds {
+        at = traffic_round(at.control, clients, handles, lengths, links, n, k, at.sum);
+        k += 1;
+    }
+    at
+}
+
+// A whole sequence on a fresh core: mode 0 is arrivals and ticks, any other only refused calls.
+#[no_mangle]
+pub extern "C" fn bench_run(
+    privates: u32,
+    indifferents: u32,
+    discipline: u32,
+    depth: u32,
+    mode: u32,
+    rounds: u32,
+) -> u64 {
+    if 64 < privates {
+        return 0;
+    }
+    if 64 < indifferents {
+        return 0;
+    }
+    let n = privates + indifferents;
+    if n < 1 {
+        return 0;
+    }
+    if depth < 1 {
+        return 0;
+    }
+    let mut clients = [0; CLIENTS];
+    let mut handles = [0; STORE];
+    let mut lengths = [0; STORE];
+    let mut links = [0; LINKS];
+    let shut = opening::unopened();
+    let opened = opening::open(
+        shut,
+        &mut clients,
+        &mut handles,
+        &mut lengths,
+        &mut links,
+        1024,
+        discipline,
+        1,
+    );
+    let begun = opened.control;
+    let joined = join_all(
+        begun,
+        &mut clients,
+        &handles,
+        &lengths,
+        &links,
+        n,
+        indifferents,
+    );
+    let filled = fill_queues(
+        joined,
+        &mut clients,
+        &mut handles,
+        &mut lengths,
+        &mut links,
+        n,
+        depth - 1,
+    );
+    if mode == 0 {
+        return traffic_rounds(
+            filled,
+            &mut clients,
+            &mut handles,
+            &mut lengths,
+            &mut links,
+            n,
+            rounds,
+        ).sum;
+    }
+    refused_rounds(
+        filled,
+        &mut clients,
+        &mut handles,
+        &mut lengths,
+        &mut links,
+        n,
+        rounds,
+    ).sum
+}

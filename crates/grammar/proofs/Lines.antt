@@ -1,0 +1,47 @@
+-- A text goes line by line: what a closed line prints stands before what the rest prints, and bytes behind the last line
+-- feed print one refusal. By induction over the line's bytes, none of which is a line feed. Assumes nothing.
+use Prim.Native.Nat.{ℕ}
+use mathlib.Core.Path.{_≡_, refl, sym, ap, _∙_}
+use mathlib.Core.Logic.{_≢_}
+use mathlib.Core.Bool.{Bool, true, false}
+use mathlib.Core.List.{List, [], _∷_, _++_, append-assoc, append-nil}
+use lib.Dec.{eqb}
+use borrow.Author.Tests.{ne-eqb}
+use Rattle.definitions.specs.declared.Answer.the-variants.{Refused}
+use Rattle.definitions.specs.State.{Core}
+use Rattle.definitions.specs.Checks.{Result}
+use Rattle.grammar.specs.Bytes.{lineFeed, Unbroken}
+use Rattle.grammar.specs.Grammar.{parsed}
+use Rattle.grammar.specs.Printout.{printed, answered, printedFrom}
+
+module _ (core : Core) where
+  -- a byte that is no line feed joins the line
+  joins : (line : List ℕ) (b : ℕ) (text : List ℕ) → b ≢ lineFeed → printedFrom core line (b ∷ text) ≡ printedFrom core (line ++ (b ∷ [])) text
+  unfolding printedFrom
+  joins [] b text other = rw (ne-eqb b lineFeed other, printedFrom)
+  joins (x ∷ line) b text other = rw (ne-eqb b lineFeed other, printedFrom)
+
+  read : (line bs text : List ℕ) → Unbroken bs → printedFrom core line (bs ++ text) ≡ printedFrom core (line ++ bs) text
+  read line [] text whole = ap (λ (l : List ℕ). printedFrom core l text) (sym (append-nil line))
+  read line (b ∷ bs) text whole =
+      joins line b (bs ++ text) (whole .0)
+      ∙ read (line ++ (b ∷ [])) bs text (whole .1)
+      ∙ ap (λ (l : List ℕ). printedFrom core l text) (append-assoc line (b ∷ []) bs)
+
+  closes : (line text : List ℕ)
+      → printedFrom core line (lineFeed ∷ text)
+      ≡ printed (answered core (parsed line) .answer) ++ printedFrom (answered core (parsed line) .core) [] text
+  unfolding printedFrom
+  closes [] text = refl
+  closes (x ∷ line) text = refl
+
+  pub line-closed : (line text : List ℕ)
+      → Unbroken line
+      → printedFrom core [] (line ++ lineFeed ∷ text)
+      ≡ printed (answered core (parsed line) .answer) ++ printedFrom (answered core (parsed line) .core) [] text
+  line-closed line text whole = read [] line (lineFeed ∷ text) whole ∙ closes line text
+
+  pub line-open : (b : ℕ) (bs : List ℕ) → Unbroken (b ∷ bs) → printedFrom core [] (b ∷ bs) ≡ printed (Refused 16)
+  unfolding printedFrom
+  line-open b bs whole =
+      ap (printedFrom core []) (sym (append-nil (b ∷ bs))) ∙ read [] (b ∷ bs) [] whole

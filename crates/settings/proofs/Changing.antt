@@ -1,0 +1,128 @@
+-- A change: new terms where the type stays, and else a new client in the place of the old one, whose places leave the order.
+-- Assumes nothing.
+use Prim.Native.Nat.{ℕ, _-_, _≤_, _<_}
+use mathlib.Core.Path.{_≡_, sym, ap, _∙_}
+use mathlib.Core.Logic.{_≢_}
+use mathlib.Core.Bool.{true, false}
+use mathlib.Core.List.{List}
+use borrow.Author.Tests.{ltb-true}
+use Rattle.definitions.specs.declared.Call.the-variants.{Change}
+use Rattle.definitions.specs.declared.Answer.the-variants.{Accepted, Refused}
+use Rattle.definitions.specs.Sizes.{ids}
+use Rattle.definitions.specs.Client.{Kind, kindOf, isActive, sameKind, Client, joining, retuned, changed}
+use Rattle.definitions.specs.State.{State, without}
+use Rattle.definitions.specs.Checks.{rates, activeChecks, changeChecks}
+use Rattle.definitions.specs.Calls.{updated, orderAfterChange}
+use Rattle.definitions.proofs.Laws.Checked.{Passed}
+use Rattle.order.specs.Order.{Sound}
+use Rattle.tables.specs.declared.Control.{Control}
+use Rattle.tables.specs.declared.Answered.{Answered}
+use Rattle.tables.specs.Tables.{Tables, rateAt}
+use Rattle.tables.specs.Meaning.{kindAt, clientAt, stateOf}
+use Rattle.tables.specs.Invariant.{Sound-core, Valid}
+use Rattle.tables.specs.Numbers.{refusal}
+use Rattle.tables.specs.Promise.{Meets}
+use Rattle.tables.proofs.Promises.{refused-with, opened, all-passed, sound-before, accepted-with}
+use Rattle.tables.proofs.Checkings.{changes}
+use Rattle.tables.proofs.Touch.{client-own}
+use Rattle.settings.specs.Writes.{Room, Ready, traded, Recast, Withdraws}
+use Rattle.settings.proofs.Rates.{rate-held}
+use Rattle.settings.proofs.Bounds.{Fitting, terms-fit, fitting-holds, room, ready}
+use Rattle.settings.proofs.Placing.{placedTables, withdrawn, Placement, placed-shape, placed-opened, placed-state}
+use Rattle.settings.proofs.Retuning.{retunedControl, retunedTables, retuned-shape, retuned-state}
+
+-- what a change makes of a state, by whether the type stays
+module _ (s : State) (id kind rate burst : ℕ) where
+  abbrev made : State
+  made = updated s id (changed (s .clients id) kind rate burst) (orderAfterChange s id kind)
+
+  made-kept : sameKind (s .clients id .kind) (kindOf kind) ≡ true → updated s id (retuned (s .clients id) rate burst) (s .order) ≡ made
+  unfolding changed orderAfterChange
+  made-kept e = rw e
+
+  made-anew : sameKind (s .clients id .kind) (kindOf kind) ≡ false → updated s id (joining kind rate burst) (without id (s .order)) ≡ made
+  unfolding changed orderAfterChange
+  made-anew e = rw e
+
+module _ (c : Control) (t : Tables) (valid : Valid c t) (id kind rate burst : ℕ) where
+  -- the old rate can be taken off
+  pub change-others : c .opened ≡ true → id < ids → rateAt (t .clients) id ≤ c .rates
+  change-others o below = rate-held c t (valid o) id below
+
+  pub change-refused : (r : Answered) (n : ℕ) → r ≡ record { control = c; answer = Refused n }
+      → n ≡ refusal c t (λ s. changeChecks s id kind rate burst) → n ≢ 0 → Meets (Change id kind rate burst) c t r t
+  unfolding changes
+  change-refused = refused-with (Change id kind rate burst) (changes id kind rate burst) c t valid
+
+  module _ (none : refusal c t (λ s. changeChecks s id kind rate burst) ≡ 0) where
+    passed : Passed (changeChecks (stateOf c t) id kind rate burst)
+    unfolding changes
+    passed = all-passed (Change id kind rate burst) (changes id kind rate burst) c t valid none
+
+    sound : Sound-core c t
+    unfolding changes
+    sound = sound-before (Change id kind rate burst) (changes id kind rate burst) c t valid none
+
+    runs : c .opened ≡ true
+    unfolding changes
+    runs = opened (Change id kind rate burst) (changes id kind rate burst) c t valid none
+
+    below : id < ids
+    unfolding changeChecks activeChecks
+    below = ltb-true id ids (passed .0)
+
+    kind-here : stateOf c t .clients id .kind ≡ kindAt c id
+    unfolding stateOf clientAt
+    kind-here = ap (λ (x : Client). x .kind) (client-own c t (sound .shape) id below)
+
+    pub change-active : isActive (kindAt c id) ≡ true
+    unfolding changeChecks activeChecks
+    change-active = ap isActive (sym kind-here) ∙ passed .1 .0
+
+    fits : Fitting kind rate burst
+    unfolding changeChecks activeChecks
+    fits =
+        terms-fit (stateOf c t .threshold) (rates (stateOf c t .clients) - stateOf c t .clients id .rate) kind rate burst
+        (passed .1 .1)
+
+    pub change-room : Room c (t .clients) id rate burst
+    change-room = room c t sound id below rate burst (fits .rateHigh) (fits .burstHigh)
+
+    pub change-ready : Ready (t .clients) (t .links) id
+    change-ready = ready c t sound id below
+
+    -- the type stays
+    pub change-retuned : sameKind (kindAt c id) (kindOf kind) ≡ true
+        → (r : Answered) → r ≡ record { control = retunedControl c t id rate; answer = Accepted }
+        → Meets (Change id kind rate burst) c t r (retunedTables t id rate burst)
+    unfolding changes
+    change-retuned same r e =
+        accepted-with (Change id kind rate burst) (changes id kind rate burst) c t valid none r (retunedControl c t id rate)
+        (retunedTables t id rate burst) e runs
+        (retuned-state c t sound id rate burst below change-active
+        ∙ made-kept (stateOf c t) id kind rate burst (ap (λ (k : Kind). sameKind k (kindOf kind)) kind-here ∙ same))
+        (retuned-shape c t sound id rate burst below change-active)
+
+    -- it differs
+    module _ (d : Control) (links : List ℕ) (cast : Recast (traded c (rateAt (t .clients) id) rate) d id (kindOf kind))
+        (tight : Sound links) (away : Withdraws c (t .clients) (t .links) id links) where
+      placement : Placement c t id kind rate burst d links
+      placement = record {
+        sound = sound;
+        below = below;
+        holds = fitting-holds kind rate burst fits;
+        cast = cast;
+        tight = tight;
+        away = withdrawn c t sound id below links away;
+      }
+
+      pub change-placed : sameKind (kindAt c id) (kindOf kind) ≡ false
+          → (r : Answered) → r ≡ record { control = d; answer = Accepted }
+          → Meets (Change id kind rate burst) c t r (placedTables t id rate burst links)
+      unfolding changes
+      change-placed differs r e =
+          accepted-with (Change id kind rate burst) (changes id kind rate burst) c t valid none r d (placedTables t id rate burst links) e
+          (placed-opened c t id kind rate burst d links placement ∙ runs)
+          (placed-state c t id kind rate burst d links placement
+          ∙ made-anew (stateOf c t) id kind rate burst (ap (λ (k : Kind). sameKind k (kindOf kind)) kind-here ∙ differs))
+          (placed-shape c t id kind rate burst d links placement)

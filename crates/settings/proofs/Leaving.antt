@@ -1,0 +1,84 @@
+-- A leave: the id's places leave the order, and nobody is put in its place. Nobody is what a client of no type, rate 0 and burst 0
+-- would be. Assumes nothing.
+use Prim.Native.Nat.{ℕ, _<_}
+use mathlib.Core.Path.{_≡_, refl, ap, _∙_}
+use mathlib.Core.Logic.{_≢_}
+use mathlib.Core.List.{List}
+use native.Mathlib.Omega.{arith}
+use borrow.Author.Tests.{ltb-true}
+use Rattle.definitions.specs.declared.Call.the-variants.{Leave}
+use Rattle.definitions.specs.declared.Answer.the-variants.{Accepted, Refused}
+use Rattle.definitions.specs.Sizes.{ids, shares, indifferentType, privateType}
+use Rattle.definitions.specs.Client.{Client, nobody, kindOf, joining}
+use Rattle.definitions.specs.State.{without}
+use Rattle.definitions.specs.Checks.{activeChecks, leaveChecks}
+use Rattle.definitions.specs.Calls.{updated}
+use Rattle.definitions.proofs.Laws.Checked.{Passed}
+use Rattle.definitions.proofs.Laws.Rates.{held}
+use Rattle.order.specs.Order.{Sound}
+use Rattle.tables.specs.declared.Control.{Control}
+use Rattle.tables.specs.declared.Answered.{Answered}
+use Rattle.tables.specs.Tables.{Tables, rateAt}
+use Rattle.tables.specs.Meaning.{stateOf}
+use Rattle.tables.specs.Invariant.{Sound-core, Valid}
+use Rattle.tables.specs.Numbers.{refusal}
+use Rattle.tables.specs.Promise.{Meets}
+use Rattle.tables.proofs.Promises.{refused-with, opened, all-passed, sound-before, accepted-with}
+use Rattle.tables.proofs.Checkings.{leaves}
+use Rattle.settings.specs.Writes.{Room, Ready, traded, Recast, Withdraws}
+use Rattle.settings.proofs.Bounds.{room, ready}
+use Rattle.settings.proofs.Placing.{placedTables, withdrawn, Placement, placed-shape, placed-opened, placed-state}
+
+nobody-joins : joining 0 0 0 ≡ nobody
+unfolding joining kindOf indifferentType privateType shares
+nobody-joins = refl
+
+none-held : held nobody ≡ 0
+unfolding held
+none-held = refl
+
+module _ (c : Control) (t : Tables) (valid : Valid c t) (id : ℕ) where
+  pub leave-refused : (r : Answered) (n : ℕ) → r ≡ record { control = c; answer = Refused n }
+      → n ≡ refusal c t (λ s. leaveChecks s id) → n ≢ 0 → Meets (Leave id) c t r t
+  unfolding leaves
+  leave-refused = refused-with (Leave id) (leaves id) c t valid
+
+  module _ (none : refusal c t (λ s. leaveChecks s id) ≡ 0) where
+    passed : Passed (leaveChecks (stateOf c t) id)
+    unfolding leaves
+    passed = all-passed (Leave id) (leaves id) c t valid none
+
+    sound : Sound-core c t
+    unfolding leaves
+    sound = sound-before (Leave id) (leaves id) c t valid none
+
+    below : id < ids
+    unfolding leaveChecks activeChecks
+    below = ltb-true id ids (passed .0)
+
+    pub leave-ready : Ready (t .clients) (t .links) id
+    leave-ready = ready c t sound id below
+
+    pub leave-room : Room c (t .clients) id 0 0
+    leave-room = room c t sound id below 0 0 (omega arith) (omega arith)
+
+    module _ (d : Control) (links : List ℕ) (cast : Recast (traded c (rateAt (t .clients) id) 0) d id (kindOf 0))
+        (tight : Sound links) (away : Withdraws c (t .clients) (t .links) id links) where
+      placement : Placement c t id 0 0 0 d links
+      placement = record {
+        sound = sound;
+        below = below;
+        holds = ap held nobody-joins ∙ none-held;
+        cast = cast;
+        tight = tight;
+        away = withdrawn c t sound id below links away;
+      }
+
+      pub leave-accepted : (r : Answered) → r ≡ record { control = d; answer = Accepted } → Meets (Leave id) c t r (placedTables t id 0 0 links)
+      unfolding leaves
+      leave-accepted r e =
+          accepted-with (Leave id) (leaves id) c t valid none r d (placedTables t id 0 0 links) e
+          (placed-opened c t id 0 0 0 d links placement ∙ opened (Leave id) (leaves id) c t valid none)
+          (placed-state c t id 0 0 0 d links placement
+          ∙ ap (λ (x : Client). updated (stateOf c t) id x (without id (stateOf c t .order))) nobody-joins)
+          (placed-shape c t id 0 0 0 d links placement)

@@ -1,0 +1,12 @@
+-- What join, change and leave do to the tables, over the lists that the tables hold.
+pub mod Remarks
+pub mod Entries
+pub mod Rates
+pub mod Rings
+pub mod Placing
+pub mod Bounds
+pub mod Leaving
+pub mod Joining
+pub mod Asking
+pub mod Retuning
+pub mod Changing

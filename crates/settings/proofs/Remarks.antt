@@ -1,0 +1,83 @@
+-- A mark set or taken, and which marks a type has. By the contracts of the marks, at the id and elsewhere. Assumes nothing.
+use Prim.Native.Nat.{ℕ, _<_}
+use mathlib.Core.Path.{_≡_, refl, _∙_}
+use mathlib.Core.Bool.{Bool, true, false, cond, not, _&&_, _||_}
+use lib.Dec.{eqb, ltb}
+use borrow.Author.Tests.{lt-ltb, ne-eqb}
+use Rattle.definitions.specs.Sizes.{ids, indifferentType, privateType}
+use Rattle.definitions.specs.Client.{Kind, absent, indifferent, private, kindOf, isActive, isIndifferent, isPrivate}
+use Rattle.definitions.proofs.Laws.Tests.{true-false, eqb-same, eqb-cases}
+use Rattle.marks.specs.Marks.{marked}
+use Rattle.tables.specs.declared.Control.{Control}
+use Rattle.tables.specs.Meaning.{kindAt}
+use Rattle.settings.specs.Writes.{Remarked, Recast}
+
+or-off : (b : Bool) → (b || false) ≡ b
+or-off true = refl
+or-off false = refl
+
+or-on : (b : Bool) → (b || true) ≡ true
+or-on true = refl
+or-on false = refl
+
+and-on : (b : Bool) → (b && true) ≡ b
+and-on true = refl
+and-on false = refl
+
+and-off : (b : Bool) → (b && false) ≡ false
+and-off true = refl
+and-off false = refl
+
+module _ (word after id : ℕ) where
+  pub remarked-set : id < ids
+      → ((j : ℕ) → marked after j ≡ marked word j || (eqb j id && ltb id ids))
+      → Remarked word after id true
+  remarked-set below e = record {
+    own = e id ∙ rw (eqb-same id, lt-ltb id ids below) (or-on (marked word id));
+    others = λ j ne. e j ∙ rw (ne-eqb j id ne) (or-off (marked word j));
+  }
+
+  pub remarked-taken : ((j : ℕ) → marked after j ≡ marked word j && not (eqb j id)) → Remarked word after id false
+  remarked-taken e = record {
+    own = e id ∙ rw (eqb-same id) (and-off (marked word id));
+    others = λ j ne. e j ∙ rw (ne-eqb j id ne) (and-on (marked word j));
+  }
+
+pub type-indifferent : (type : ℕ) → isIndifferent (kindOf type) ≡ eqb type indifferentType
+unfolding kindOf
+type-indifferent type = go (eqb type indifferentType) (eqb type privateType)
+  where
+    go : (a b : Bool) → isIndifferent (cond a indifferent (cond b private absent)) ≡ a
+    go true b = refl
+    go false true = refl
+    go false false = refl
+
+pub type-private : (type : ℕ) → isPrivate (kindOf type) ≡ eqb type privateType
+unfolding kindOf indifferentType privateType
+type-private type =
+    eqb-cases (λ a. isPrivate (cond a indifferent (cond (eqb type 2) private absent)) ≡ eqb type 2) type 1
+    (λ e. rw e)
+    (λ ne. go (eqb type 2))
+  where
+    go : (b : Bool) → isPrivate (cond b private absent) ≡ b
+    go true = refl
+    go false = refl
+
+-- the kind that the marks say
+pub recast-kind : (c d : Control) (id : ℕ) (kind : Kind) → Recast c d id kind → kindAt d id ≡ kind
+unfolding kindAt
+recast-kind c d id kind k = rw (k .indifferent .own, k .private .own) (go kind)
+  where
+    go : (x : Kind) → cond (isIndifferent x) indifferent (cond (isPrivate x) private absent) ≡ x
+    go absent = refl
+    go indifferent = refl
+    go private = refl
+
+-- an active id without the mark of the one type is of the other
+pub other-kind : (c : Control) (id : ℕ) → marked (c .indifferent) id ≡ false → isActive (kindAt c id) ≡ true → kindAt c id ≡ private
+unfolding kindAt
+other-kind c id none active = rw none (go (marked (c .private) id) (rw none at active))
+  where
+    go : (b : Bool) → isActive (cond b private absent) ≡ true → cond b private absent ≡ private
+    go true e = refl
+    go false e = true-false e refl

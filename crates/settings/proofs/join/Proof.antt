@@ -1,0 +1,46 @@
+-- `settings::join` meets its contract: it is refused with the first number that fails, and else places the client.
+-- Assumes nothing.
+use borrow.Author.Needs.{needs}
+use mathlib.Core.Path.{sym, _∙_}
+use Rattle.settings.proofs.Joining.{join-refused, join-room, join-accepted}
+use Rattle.settings.proofs.join.Statement.{statement}
+use Rattle.settings.proofs.join.Tie as tie
+
+join-number-requires : tie.Need-join-number-requires
+join-number-requires c κs = search needs
+
+refused-requires : tie.Need-refused-requires
+refused-requires c κs = search needs
+
+returns : tie.Need-returns
+returns c =
+    let start = c .before .before .before in
+    let a = start .args in
+    join-refused (a .control) _ (start .pre) (a .id) (a .kind) (a .rate) (a .burst) (c .refused .result) _
+    (c .refused .ensures) (c .before .before .join-number .ensures _ (start .pre)) (c .before .if1 .taken)
+
+place-client-requires : tie.Need-place-client-requires
+place-client-requires c κs =
+    let start = c .before .before .before in
+    let a = start .args in
+    join-room (a .control) _ (start .pre) (a .id) (a .kind) (a .rate) (a .burst)
+    (sym (c .before .before .join-number .ensures _ (start .pre)) ∙ c .before .if1 .left)
+
+accepted-requires : tie.Need-accepted-requires
+accepted-requires c κs = search needs
+
+returns-2 : tie.Need-returns-2
+returns-2 c =
+    let p = c .before .place-client in
+    let e = c .before .before .before in
+    let start = e .before .before in
+    let a = start .args in
+    rw (p .ensures .1)
+    (join-accepted (a .control) _ (start .pre) (a .id) (a .kind) (a .rate) (a .burst)
+    (sym (e .before .join-number .ensures _ (start .pre)) ∙ e .if1 .left) (p .result) (p .ensures .0) (c .accepted .result)
+    (c .accepted .ensures))
+
+pub join-spec : {M : Type 1} → statement M
+join-spec =
+    tie.close
+    (tie.spec join-number-requires refused-requires returns place-client-requires accepted-requires returns-2)

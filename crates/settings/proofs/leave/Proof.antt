@@ -1,0 +1,51 @@
+-- `settings::leave` meets its contract: it is refused with the first number that fails, and else withdraws the client and puts
+-- nobody in its place. Assumes nothing.
+use borrow.Author.Needs.{needs}
+use mathlib.Core.Path.{sym, _∙_}
+use Rattle.settings.proofs.Leaving.{leave-refused, leave-ready, leave-room, leave-accepted}
+use Rattle.settings.proofs.leave.Statement.{statement}
+use Rattle.settings.proofs.leave.Tie as tie
+
+leave-number-requires : tie.Need-leave-number-requires
+leave-number-requires c κs = search needs
+
+refused-requires : tie.Need-refused-requires
+refused-requires c κs = search needs
+
+returns : tie.Need-returns
+returns c =
+    let start = c .before .before .before in
+    let a = start .args in
+    leave-refused (a .control) _ (start .pre) (a .id) (c .refused .result) _ (c .refused .ensures)
+    (c .before .before .leave-number .ensures _) (c .before .if1 .taken)
+
+withdraw-requires : tie.Need-withdraw-requires
+withdraw-requires c κs =
+    let e = c .before .before in
+    let start = e .before .before in
+    leave-ready (start .args .control) _ (start .pre) (start .args .id) (sym (e .before .leave-number .ensures _) ∙ e .if1 .left)
+
+place-client-requires : tie.Need-place-client-requires
+place-client-requires c κs =
+    let e = c .before .before .before .before in
+    let start = e .before .before in
+    leave-room (start .args .control) _ (start .pre) (start .args .id) (sym (e .before .leave-number .ensures _) ∙ e .if1 .left)
+
+accepted-requires : tie.Need-accepted-requires
+accepted-requires c κs = search needs
+
+returns-2 : tie.Need-returns-2
+returns-2 c =
+    let p = c .before .place-client in
+    let w = c .before .before .before .withdraw in
+    let e = c .before .before .before .before .before .before in
+    let start = e .before .before in
+    let a = start .args in
+    rw (p .ensures .1)
+    (leave-accepted (a .control) _ (start .pre) (a .id) (sym (e .before .leave-number .ensures _) ∙ e .if1 .left)
+    (p .result) _ (p .ensures .0) (w .ensures .0) (w .ensures .1) (c .accepted .result) (c .accepted .ensures))
+
+pub leave-spec : {M : Type 1} → statement M
+leave-spec =
+    tie.close
+    (tie.spec leave-number-requires refused-requires returns withdraw-requires place-client-requires accepted-requires returns-2)

@@ -1,0 +1,98 @@
+-- `settings::place_client` meets its contract: the id's numbers are written one after the other, then the control follows.
+-- Assumes nothing.
+use borrow.Author.Needs.{needs}
+use Rattle.definitions.specs.Sizes.{ids, shares, burstLimit}
+use Rattle.tables.specs.Tables.{field}
+use Rattle.settings.proofs.place_client.Statement.{statement}
+use Rattle.settings.proofs.place_client.Tie as tie
+
+add-old : tie.Need-add-old
+unfolding ids
+add-old c = search needs
+
+cast-old : tie.Need-cast-old
+unfolding ids
+cast-old c = search needs
+
+mul-old : tie.Need-mul-old
+unfolding ids
+mul-old c = search needs
+
+element-copy-out-old : tie.Need-element-copy-out-old
+unfolding ids
+element-copy-out-old c = search needs
+
+mul-set-terms : tie.Need-mul-set-terms
+unfolding burstLimit
+mul-set-terms c = search needs
+
+set-terms-requires : tie.Need-set-terms-requires
+unfolding ids
+set-terms-requires c κs = search needs
+
+add-clients : tie.Need-add-clients
+unfolding ids
+add-clients c = search needs
+
+cast-clients : tie.Need-cast-clients
+unfolding ids
+cast-clients c = search needs
+
+mul-clients : tie.Need-mul-clients
+unfolding ids
+mul-clients c = search needs
+
+element-write-clients : tie.Need-element-write-clients
+unfolding ids
+element-write-clients c = search needs
+
+add-clients-2 : tie.Need-add-clients-2
+unfolding ids
+add-clients-2 c = search needs
+
+cast-clients-2 : tie.Need-cast-clients-2
+unfolding ids
+cast-clients-2 c = search needs
+
+mul-clients-2 : tie.Need-mul-clients-2
+unfolding ids
+mul-clients-2 c = search needs
+
+element-write-clients-2 : tie.Need-element-write-clients-2
+unfolding ids
+element-write-clients-2 c = search needs
+
+trade-requires : tie.Need-trade-requires
+unfolding ids field
+trade-requires c κs = search needs
+
+recast-requires : tie.Need-recast-requires
+unfolding ids
+recast-requires c κs = search needs
+
+returns : tie.Need-returns
+unfolding ids shares field
+returns c =
+    (rw (c .before .trade .ensures) at (c .recast .ensures), rw (c .before .before .set-terms .ensures))
+
+pub place-client-spec : {M : Type 1} → statement M
+place-client-spec =
+    tie.close
+    (tie.spec
+    add-old
+    cast-old
+    mul-old
+    element-copy-out-old
+    mul-set-terms
+    set-terms-requires
+    add-clients
+    cast-clients
+    mul-clients
+    element-write-clients
+    add-clients-2
+    cast-clients-2
+    mul-clients-2
+    element-write-clients-2
+    trade-requires
+    recast-requires
+    returns)

@@ -1,0 +1,32 @@
+-- `settings::recast` meets its contract: the marks of the id are those of its type. Assumes nothing.
+use borrow.Author.Needs.{needs}
+use mathlib.Core.Path.{refl}
+use Rattle.definitions.specs.Sizes.{indifferentType, privateType}
+use Rattle.settings.proofs.Remarks.{type-indifferent, type-private}
+use Rattle.settings.proofs.recast.Statement.{statement}
+use Rattle.settings.proofs.recast.Tie as tie
+
+set-mark-requires : tie.Need-set-mark-requires
+set-mark-requires c κs = search needs
+
+set-mark-requires-2 : tie.Need-set-mark-requires-2
+set-mark-requires-2 c κs = search needs
+
+set-mark-requires-3 : tie.Need-set-mark-requires-3
+set-mark-requires-3 c κs = search needs
+
+returns : tie.Need-returns
+unfolding indifferentType privateType
+returns c = record {
+  opened = refl;
+  threshold = refl;
+  discipline = refl;
+  generator = refl;
+  rates = refl;
+  indifferent = rw type-indifferent (c .before .before .set-mark .ensures);
+  private = rw type-private (c .before .set-mark2 .ensures);
+  waiting = c .set-mark3 .ensures;
+}
+
+pub recast-spec : {M : Type 1} → statement M
+recast-spec = tie.close (tie.spec set-mark-requires set-mark-requires-2 set-mark-requires-3 returns)

@@ -1,0 +1,202 @@
+-- Whose slot it is, read off the marks: a word with the marks of those in a draw has the definitions' weights, and the place
+-- accepted earliest is of the id accepted earliest. Assumes nothing.
+use Prim.Native.Nat.{ℕ, zero, suc, _/_, _≤_, _<_}
+use mathlib.Core.Path.{_≡_, refl, sym, ap, subst, _∙_}
+use mathlib.Core.Logic.{_≢_}
+use mathlib.Core.Bool.{Bool, true, false, cond, _&&_, and-comm}
+use mathlib.Core.List.{List, [], _∷_, map}
+use native.Mathlib.Omega.{arith}
+use lib.Dec.{eqb}
+use borrow.Author.Tests.{eq-eqb, ne-eqb}
+use Rattle.definitions.specs.Sizes.{ids, places, firstCome}
+use Rattle.definitions.specs.Draw.{sumBelow, targetOf, draw}
+use Rattle.definitions.specs.Client.{Kind, absent, indifferent, private, isPrivate, Client, empty}
+use Rattle.definitions.specs.State.{State, earliest}
+use Rattle.definitions.specs.Tick.{anyBelow, contends, ruleOf, contenderRate, privateRate, firstTurn, turnBy, turn}
+use Rattle.definitions.specs.Limits.{LimitsBy, standing, ordered}
+use Rattle.definitions.proofs.Laws.Tests.{true-false}
+use Rattle.definitions.proofs.Laws.Sums.{sumBelow-part, anyBelow-true}
+use Rattle.definitions.proofs.Limits.Turns.{contends-contender}
+use Rattle.marks.specs.Marks.{marked}
+use Rattle.marks.proofs.Search.{anyBelow-cong}
+use Rattle.draw.specs.Weights.{weightAt}
+use Rattle.draw.proofs.Sums.{sumBelow-cong, drawnAt-cong}
+use Rattle.order.specs.Order.{frontOf}
+use Rattle.order.specs.Owner.{owner}
+use Rattle.order.proofs.Walk.{ordered-walked}
+use Rattle.order.proofs.Owner.{front-earliest}
+use Rattle.tables.specs.declared.Control.{Control}
+use Rattle.tables.specs.Tables.{Tables, headAt, countAt, ring}
+use Rattle.tables.specs.Meaning.{packetAt, queueAt, clientAt, clientsOf, orderOf, stateOf}
+use Rattle.tables.specs.Invariant.{Shape, Sound-core}
+use Rattle.tables.proofs.Marking.{kind-indifferent, kind-private}
+use Rattle.tables.proofs.Touch.{waits-here, client-own}
+use Rattle.slot.specs.declared.Choice.{Choice}
+use Rattle.slot.specs.Turns.{Chosen, Drawn-among}
+use Rattle.slot.proofs.Filling.{rate-first}
+
+-- a queue is empty exactly where its count is 0
+pub queue-empty : (t : Tables) (id : ℕ) → empty (queueAt t id) ≡ eqb (countAt (t .clients) id) 0
+unfolding queueAt ring
+queue-empty t id = go (headAt (t .clients) id) (countAt (t .clients) id)
+  where
+    go : (head n : ℕ) → empty (map (packetAt t) (ring id head n)) ≡ eqb n 0
+    go head zero = refl
+    go head (suc n) = sym (ne-eqb (suc n) 0 (omega arith))
+
+-- the order of ids is that of the places
+pub order-owners : (c : Control) (t : Tables) (shape : Shape c t) → orderOf t ≡ map owner (shape .order)
+unfolding orderOf
+order-owners c t shape = ap (map owner) (ordered-walked (t .links) (shape .order) (shape .ordered))
+
+module _ (c : Control) (t : Tables) (core : Sound-core c t) where
+  abbrev clients : ℕ → Client
+  clients = clientsOf c t
+
+  abbrev s : State
+  s = stateOf c t
+
+  -- ---- the marks of those in a draw
+
+  pub contends-marks : (id : ℕ) → id < ids → marked (c .waiting) id && marked (c .indifferent) id ≡ contends (clients id)
+  unfolding contends clientAt
+  contends-marks id below =
+      rw (
+        client-own c t (core .shape) id below,
+        kind-indifferent c id,
+        queue-empty t id,
+        sym (waits-here c t (core .shape) id below),
+      )
+      (and-comm (marked (c .waiting) id) (marked (c .indifferent) id))
+
+  pub private-marks : (id : ℕ) → id < ids → marked (c .private) id ≡ isPrivate (clients id .kind)
+  unfolding clientAt
+  private-marks id below =
+      rw (client-own c t (core .shape) id below) (sym (kind-private c id (core .shape .apart id)))
+
+  limited : (id : ℕ) (k : Kind) → clients id .kind ≡ k → LimitsBy k (clients id)
+  unfolding stateOf
+  limited id k e = subst (λ (x : Kind). LimitsBy x (clients id)) e (core .limits .clientLimits id)
+
+  contender-rated : (id : ℕ) → contends (clients id) ≡ true → 1 ≤ clients id .rate
+  contender-rated id e = limited id indifferent (contends-contender (clients id) e .indifferently) .active .rateLow
+
+  private-rated : (id : ℕ) → isPrivate (clients id .kind) ≡ true → 1 ≤ clients id .rate
+  private-rated id e = limited id private (kind-of (clients id .kind) e) .active .rateLow
+    where
+      kind-of : (k : Kind) → isPrivate k ≡ true → k ≡ private
+      kind-of absent e = true-false e refl
+      kind-of indifferent e = true-false e refl
+      kind-of private e = refl
+
+  -- a word of marks and the test of the definitions that it stands for
+  module _ (word : ℕ) (test : Client → Bool) (agree : (id : ℕ) → id < ids → marked word id ≡ test (clients id))
+      (rated : (id : ℕ) → test (clients id) ≡ true → 1 ≤ clients id .rate) where
+    any-agrees : anyBelow ids (marked word) ≡ anyBelow ids (λ id. test (clients id))
+    any-agrees = anyBelow-cong ids (marked word) (λ id. test (clients id)) agree
+
+    weight-agrees : (id : ℕ) → id < ids → weightAt word (t .clients) id ≡ cond (test (clients id)) (clients id .rate) 0
+    unfolding weightAt clientAt
+    weight-agrees id below =
+        rw (agree id below, sym (rate-first (t .clients) id), client-own c t (core .shape) id below)
+
+    draw-agrees : (g : ℕ)
+        → draw g (weightAt word (t .clients)) .id ≡ draw g (λ id. cond (test (clients id)) (clients id .rate) 0) .id
+    unfolding draw targetOf
+    draw-agrees g =
+        rw (sumBelow-cong ids (weightAt word (t .clients)) (λ id. cond (test (clients id)) (clients id .rate) 0) weight-agrees)
+        (drawnAt-cong (weightAt word (t .clients)) (λ id. cond (test (clients id)) (clients id .rate) 0) _ weight-agrees)
+
+    total-positive : anyBelow ids (marked word) ≡ true → 0 < sumBelow ids (weightAt word (t .clients))
+    total-positive e =
+        let found = anyBelow-true ids (λ id. test (clients id)) (sym any-agrees ∙ e) in
+        omega (
+          arith,
+          sumBelow-part ids (found .0) (weightAt word (t .clients)) (found .1),
+          weight-agrees (found .0) (found .1) ∙ ap (λ (b : Bool). cond b (clients (found .0) .rate) 0) (found .2),
+          rated (found .0) (found .2),
+        )
+
+  -- ---- rule 1
+
+  module _ (word : ℕ) (marks : (id : ℕ) → marked word id ≡ marked (c .waiting) id && marked (c .indifferent) id) where
+    contend : (id : ℕ) → id < ids → marked word id ≡ contends (clients id)
+    contend id below = marks id ∙ contends-marks id below
+
+    some-contend : anyBelow ids (marked word) ≡ anyBelow ids (λ id. contends (clients id))
+    some-contend = any-agrees word contends contend contender-rated
+
+    pub contenders-total : anyBelow ids (marked word) ≡ true → 0 < sumBelow ids (weightAt word (t .clients))
+    contenders-total = total-positive word contends contend contender-rated
+
+    module _ (any : anyBelow ids (marked word) ≡ true) where
+      turn-first : turn s ≡ firstTurn s
+      unfolding turn ruleOf turnBy stateOf
+      turn-first = rw (sym some-contend ∙ any)
+
+      pub chosen-contender : c .discipline ≢ 0
+          → (r : Choice) → Drawn-among 1 word (c .generator .value) (t .clients) r → Chosen r (turn s)
+      unfolding firstTurn stateOf firstCome contenderRate draw
+      chosen-contender drawn r d =
+          rw (turn-first, ne-eqb (c .discipline) 0 drawn)
+          (record {
+            rule = d .rule;
+            id = d .id ∙ draw-agrees word contends contend contender-rated (c .generator .value);
+            generator = d .generator;
+          })
+
+      -- where an indifferent packet waits the order has a first
+      contender-ordered : (id : ℕ) → contends (clients id) ≡ true → 0 < ordered (clients id)
+      unfolding ordered
+      contender-ordered id e =
+          let at = contends-contender (clients id) e in
+          rw (at .indifferently, at .waiting) (omega arith)
+
+      order-some : (order : List ℕ) → ((id : ℕ) → standing id (map owner order) ≡ ordered (clients id))
+          → earliest (map owner order) ≡ owner (frontOf order)
+      unfolding standing
+      order-some (p ∷ order) whole = front-earliest p order
+      order-some [] whole =
+          let found = anyBelow-true ids (λ id. contends (clients id)) (sym some-contend ∙ any) in
+          absurd (omega (arith, whole (found .0), contender-ordered (found .0) (found .2)))
+
+      pub chosen-earliest : c .discipline ≡ 0 → (front : ℕ) → front ≡ frontOf (core .shape .order)
+          → (r : Choice) → r .rule ≡ 1 → r .id ≡ front / 32 → r .generator .value ≡ c .generator .value → Chosen r (turn s)
+      unfolding firstTurn stateOf firstCome owner places
+      chosen-earliest first front e r rule id generator =
+          rw (turn-first, eq-eqb (c .discipline) 0 first)
+          (record {
+            rule = rule;
+            id = id ∙ ap owner e ∙ sym (order-some (core .shape .order) whole)
+                ∙ ap earliest (sym (order-owners c t (core .shape)));
+            generator = generator;
+          })
+        where
+          whole : (id : ℕ) → standing id (map owner (core .shape .order)) ≡ ordered (clients id)
+          whole id = ap (standing id) (sym (order-owners c t (core .shape))) ∙ core .limits .orderWhole id
+
+    -- ---- rules 2 and 3
+
+    module _ (none : anyBelow ids (marked word) ≡ false) where
+      some-private : anyBelow ids (marked (c .private)) ≡ anyBelow ids (λ id. isPrivate (clients id .kind))
+      some-private = any-agrees (c .private) (λ d. isPrivate (d .kind)) private-marks private-rated
+
+      pub private-total : anyBelow ids (marked (c .private)) ≡ true → 0 < sumBelow ids (weightAt (c .private) (t .clients))
+      private-total = total-positive (c .private) (λ d. isPrivate (d .kind)) private-marks private-rated
+
+      pub chosen-private : anyBelow ids (marked (c .private)) ≡ true
+          → (r : Choice) → Drawn-among 2 (c .private) (c .generator .value) (t .clients) r → Chosen r (turn s)
+      unfolding turn ruleOf turnBy stateOf privateRate draw
+      chosen-private any r d =
+          rw (sym some-contend ∙ none, sym some-private ∙ any)
+          (record {
+            rule = d .rule;
+            id = d .id ∙ draw-agrees (c .private) (λ x. isPrivate (x .kind)) private-marks private-rated (c .generator .value);
+            generator = d .generator;
+          })
+
+      pub chosen-nobody : anyBelow ids (marked (c .private)) ≡ false
+          → (r : Choice) → r .rule ≡ 3 → r .id ≡ 0 → r .generator .value ≡ c .generator .value → Chosen r (turn s)
+      unfolding turn ruleOf turnBy stateOf
+      chosen-nobody any r rule id generator =
+          rw (sym some-contend ∙ none, sym some-private ∙ any) (record { rule = rule; id = id; generator = generator })

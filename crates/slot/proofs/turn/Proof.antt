@@ -1,0 +1,80 @@
+-- `slot::turn` meets its contract: each way through it is the rule of the definitions whose test the marks have passed.
+-- Assumes nothing.
+use borrow.Author.Needs.{needs}
+use mathlib.Core.Path.{refl, sym, _∙_}
+use Rattle.slot.proofs.Choosing.{contenders-total, chosen-contender, chosen-earliest}
+use Rattle.slot.proofs.Choosing.{private-total, chosen-private, chosen-nobody}
+use Rattle.slot.proofs.turn.Statement.{statement}
+use Rattle.slot.proofs.turn.Tie as tie
+
+both-requires : tie.Need-both-requires
+both-requires c κs = search needs
+
+any-requires : tie.Need-any-requires
+any-requires c κs = search needs
+
+draw-among-requires : tie.Need-draw-among-requires
+draw-among-requires c κs =
+    let tested = c .before .before in
+    let both = tested .before .before in
+    contenders-total _ _ (both .before .before .pre .2) (both .both .result) (both .both .ensures)
+    (sym (tested .before .any .ensures) ∙ tested .if1 .taken)
+
+returns : tie.Need-returns
+returns c h l core =
+    let tested = c .before .before .before in
+    let both = tested .before .before in
+    chosen-contender _ _ core (both .both .result) (both .both .ensures)
+    (sym (tested .before .any .ensures) ∙ tested .if1 .taken) (c .before .if2 .taken) (c .draw-among .result)
+    (c .draw-among .ensures)
+
+front-requires : tie.Need-front-requires
+front-requires c κs = search needs
+
+returns-2 : tie.Need-returns-2
+returns-2 c h l core =
+    let tested = c .before .before .before in
+    let both = tested .before .before in
+    chosen-earliest _ _ core (both .both .result) (both .both .ensures)
+    (sym (tested .before .any .ensures) ∙ tested .if1 .taken) (c .before .if2 .left) (c .front .result)
+    (c .front .ensures .1 _ (core .shape .ordered)) _ refl refl refl
+
+any-requires-2 : tie.Need-any-requires-2
+any-requires-2 c κs = search needs
+
+draw-among-requires-2 : tie.Need-draw-among-requires-2
+draw-among-requires-2 c κs =
+    let tested = c .before .before in
+    let both = tested .before .before in
+    private-total _ _ (both .before .before .pre .2) (both .both .result) (both .both .ensures)
+    (sym (tested .before .any .ensures) ∙ tested .if1 .left) (sym (c .before .any2 .ensures) ∙ c .if3 .taken)
+
+returns-3 : tie.Need-returns-3
+returns-3 c h l core =
+    let tested = c .before .before .before in
+    let both = tested .before .before in
+    chosen-private _ _ core (both .both .result) (both .both .ensures)
+    (sym (tested .before .any .ensures) ∙ tested .if1 .left) (sym (c .before .before .any2 .ensures) ∙ c .before .if3 .taken)
+    (c .draw-among2 .result) (c .draw-among2 .ensures)
+
+returns-4 : tie.Need-returns-4
+returns-4 c h l core =
+    let tested = c .before .before in
+    let both = tested .before .before in
+    chosen-nobody _ _ core (both .both .result) (both .both .ensures)
+    (sym (tested .before .any .ensures) ∙ tested .if1 .left) (sym (c .before .any2 .ensures) ∙ c .if3 .left) _ refl refl refl
+
+pub turn-spec : {M : Type 1} → statement M
+turn-spec =
+    tie.close
+    (tie.spec
+    both-requires
+    any-requires
+    draw-among-requires
+    returns
+    front-requires
+    returns-2
+    any-requires-2
+    draw-among-requires-2
+    returns-3
+    returns-4)

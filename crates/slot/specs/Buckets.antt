@@ -1,0 +1,30 @@
+-- The buckets of the marked ids before and after rule 4: "each bucket is refilled where it is kept".
+use Prim.Native.Nat.{ℕ, _+_, _*_, _≤_, _<_, min}
+use mathlib.Core.Path.{_≡_}
+use mathlib.Core.Logic.{_≢_}
+use mathlib.Core.Bool.{true, cond}
+use mathlib.Core.List.{List}
+use lib.ListN.{length}
+use Rattle.definitions.specs.Sizes.{ids, shares, burstLimit}
+use Rattle.marks.specs.Marks.{marked}
+use Rattle.tables.specs.Tables.{field, rateAt, burstAt, levelAt}
+
+-- an id's bucket is within the limits, so that its refill does not wrap
+pub record Bucket (clients : List ℕ) (id : ℕ) : Type 0 where
+  pub level : levelAt clients id ≤ burstAt clients id * shares
+  pub rate : rateAt clients id ≤ shares
+  pub burst : burstAt clients id ≤ burstLimit
+
+pub record Refillable (word : ℕ) (clients : List ℕ) : Type 0 where
+  pub size : length clients ≡ 6 * ids
+  pub buckets : (id : ℕ) → id < ids → marked word id ≡ true → Bucket clients id
+
+-- "the rate is added, up to burst × 1024"
+unfoldable pub levelAfter : List ℕ → ℕ → ℕ
+levelAfter clients id = min (levelAt clients id + rateAt clients id) (burstAt clients id * shares)
+
+-- the level of each marked id is refilled, and no other number changes
+pub record Refilled (word : ℕ) (before after : List ℕ) : Type 0 where
+  pub size : length after ≡ length before
+  pub others : (m id : ℕ) → id < ids → m ≢ 2 → field m after id ≡ field m before id
+  pub levels : (id : ℕ) → id < ids → levelAt after id ≡ cond (marked word id) (levelAfter before id) (levelAt before id)

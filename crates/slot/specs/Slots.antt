@@ -1,0 +1,34 @@
+-- A slot before its refill: what the one whose slot it is has sent.
+use mathlib.Core.Path.{_≡_}
+use Rattle.definitions.specs.State.{State}
+use Rattle.definitions.specs.Tick.{Turn, turn, outcomeBy, clientsAfter, orderAfter}
+use Rattle.tables.specs.declared.Control.{Control}
+use Rattle.tables.specs.Tables.{Tables}
+use Rattle.tables.specs.Meaning.{stateOf}
+use Rattle.tables.specs.Invariant.{Shape, Sound-core}
+use Rattle.slot.specs.declared.Choice.{Choice}
+use Rattle.slot.specs.declared.Sent.{Sent}
+use Rattle.slot.specs.Turns.{Chosen}
+
+-- the state after rules 1 to 3, and before rule 4
+unfoldable pub unfilled : State → Turn → State
+unfilled s t = record {
+  threshold = s .threshold;
+  discipline = s .discipline;
+  generator = t .generator;
+  clients = clientsAfter (t .rule) (t .id) (s .clients);
+  order = orderAfter (t .rule) (t .id) (s .order);
+}
+
+-- the choice is the turn of a sound core
+pub record Due (c : Control) (t : Tables) (choice : Choice) : Type 0 where
+  pub core : Sound-core c t
+  pub chosen : Chosen choice (turn (stateOf c t))
+
+-- the turn is done, and the buckets are not refilled yet
+pub record Done (c : Control) (t : Tables) (r : Sent) (u : Tables) : Type 0 where
+  pub outcome : r .outcome ≡ outcomeBy (turn (stateOf c t) .rule) (turn (stateOf c t) .id) (stateOf c t .clients)
+  pub state : stateOf (r .control) u ≡ unfilled (stateOf c t) (turn (stateOf c t))
+  pub shape : Shape (r .control) u
+  pub opened : r .control .opened ≡ c .opened
+  pub indifferent : r .control .indifferent ≡ c .indifferent

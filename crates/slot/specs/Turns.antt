@@ -1,0 +1,32 @@
+-- Whose slot it is, as the code says it: the rule by its number in the paper.
+use Prim.Native.Nat.{ℕ}
+use mathlib.Core.Path.{_≡_}
+use mathlib.Core.List.{List}
+use Rattle.definitions.specs.Draw.{draw}
+use Rattle.definitions.specs.Tick.{Rule, rule1, rule2, rule3, Turn}
+use Rattle.draw.specs.Weights.{weightAt}
+use Rattle.tables.specs.declared.Control.{Control}
+use Rattle.tables.specs.Tables.{tables}
+use Rattle.tables.specs.Invariant.{Sound-core}
+use Rattle.slot.specs.declared.Choice.{Choice}
+
+abbrev pub numberOf : Rule → ℕ
+numberOf rule1 = 1
+numberOf rule2 = 2
+numberOf rule3 = 3
+
+-- a choice of the code is a turn of the definitions
+pub record Chosen (r : Choice) (t : Turn) : Type 0 where
+  pub rule : r .rule ≡ numberOf (t .rule)
+  pub id : r .id ≡ t .id
+  pub generator : r .generator .value ≡ t .generator
+
+-- a choice by a draw among the marked ids
+pub record Drawn-among (by word value : ℕ) (clients : List ℕ) (r : Choice) : Type 0 where
+  pub rule : r .rule ≡ by
+  pub id : r .id ≡ draw value (weightAt word clients) .id
+  pub generator : r .generator .value ≡ draw value (weightAt word clients) .generator
+
+-- the core is sound, whatever packets lie in the places: a choice does not look at them
+abbrev pub Sound-with : Control → List ℕ → List ℕ → Type 0
+Sound-with c clients links = (h : List ℕ) × (l : List ℕ) × Sound-core c (tables clients h l links)

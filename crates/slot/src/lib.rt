@@ -1,0 +1,324 @@
+// One slot: whose it is, what that client sends, and the refill of every bucket (paper 01, "Tick is one slot").
+use definitions::Answer;
+use definitions::Outcome;
+use definitions::Packet;
+use generator::Generator;
+use order::LINKS;
+use tables::Answered;
+use tables::BURST;
+use tables::CLIENTS;
+use tables::COUNT;
+use tables::Control;
+use tables::HEAD;
+use tables::LEVEL;
+use tables::PLACES;
+use tables::POOL;
+use tables::SHARES;
+use tables::STORE;
+ghost use mathlib.Core.Path.{_≡_};
+ghost use mathlib.Core.Bool.{cond};
+ghost use mathlib.Core.List.{List};
+ghost use Prim.Native.Nat.{ℕ, _+_, _*_, _-_, _≤_, _<_, min};
+ghost use Rattle.definitions.specs.declared.Call.the-variants.{Tick};
+ghost use Rattle.definitions.specs.Sizes.{ids, places, shares, burstLimit, longest};
+ghost use Rattle.definitions.specs.Draw.{sumBelow};
+ghost use Rattle.definitions.specs.Tick.{turn};
+ghost use Rattle.marks.specs.Marks.{marked};
+ghost use Rattle.draw.specs.Weights.{weightAt};
+ghost use Rattle.order.specs.Order.{sentinel, Sound};
+ghost use Rattle.tables.specs.Tables.{tables, headAt, countAt};
+ghost use Rattle.tables.specs.Meaning.{packetAt, stateOf};
+ghost use Rattle.tables.specs.Invariant.{Sound-core, Valid};
+ghost use Rattle.tables.specs.Promise.{Meets};
+ghost use Rattle.slot.specs.Turns.{Chosen, Drawn-among, Sound-with};
+ghost use Rattle.slot.specs.Sends.{Settled, popped, Unlinked, Sender, Spent};
+ghost use Rattle.slot.specs.Slots.{Due, Done};
+ghost use Rattle.slot.specs.Buckets.{Refillable, Refilled};
+
+// The discipline by which the packet that was accepted earliest goes first.
+const FIRST_COME: u32 = 0;
+
+// The number of the rule by which a slot has nobody.
+const NOBODY: u32 = 3;
+
+// What a tick of an unopened core is refused with.
+const UNOPENED: u32 = 19;
+
+// A private packet is padded to the longest.
+const LONGEST: u32 = 1518;
+
+// Whose slot it is: by which of the paper's rules, whose id, and the generator after the pick.
+struct Choice {
+    rule: u32,
+    id: u32,
+    generator: Generator,
+}
+
+// A draw among the marked ids, by their rates. It steps the generator once.
+fn draw_among(rule: u32, word: u64, clients: &[u32; CLIENTS], generator: Generator) -> Choice
+    requires { ⌜ 0 < sumBelow ids (weightAt word (now clients)) ⌝ }
+    ensures { λ r. ⌜ Drawn-among rule word (generator .value) (now (clients .entry)) r ⌝ }
+{
+    let next = generator.step();
+    let total = draw::total(word, clients);
+    let target = tables::wide(next.value) % total;
+    let id = draw::pick(word, clients, target as u32);
+    Choice {
+        rule,
+        id,
+        generator: next,
+    }
+}
+
+// The first of rules 1 to 3 that applies, and whom it picks. The private are drawn among whether they wait or not.
+fn turn(control: Control, clients: &[u32; CLIENTS], links: &[u32; LINKS]) -> Choice
+    requires { ⌜ Sound-with control (now clients) (now links) ⌝ }
+    ensures { λ r. ⌜ ((h l : List ℕ) → Sound-core control (tables (now (clients .entry)) h l (now (links .entry)))
+        → Chosen r (turn (stateOf control (tables (now (clients .entry)) h l (now (links .entry)))))) ⌝ }
+{
+    let generator = control.generator;
+    let contenders = marks::both(control.waiting, control.indifferent);
+    if marks::any(contenders) {
+        if control.discipline != FIRST_COME {
+            return draw_among(1, contenders, clients, generator);
+        }
+        return Choice {
+            rule: 1,
+            id: order::front(links) / PLACES,
+            generator,
+        };
+    }
+    if marks::any(control.private) {
+        return draw_among(2, control.private, clients, generator);
+    }
+    Choice {
+        rule: NOBODY,
+        id: 0,
+        generator,
+    }
+}
+
+// What a client sent in its slot, and the control after it.
+struct Sent {
+    control: Control,
+    outcome: Outcome,
+}
+
+// The packet that lies at a place.
+fn packet_at(handles: &[u32; STORE], lengths: &[u32; STORE], place: u32) -> Packet
+    requires { ⌜ place < sentinel ⌝ }
+    ensures { λ r. ⌜ ((c k : List ℕ) → r ≡ packetAt (tables c (now (handles .entry)) (now (lengths .entry)) k) place) ⌝ }
+{
+    let at = place as usize;
+    Packet {
+        handle: handles[at],
+        length: lengths[at],
+    }
+}
+
+// How much is added to a packet: a private one is as long as the longest, so that its length tells nothing.
+fn padding(control: Control, id: u32, length: u32) -> u32
+    requires { ⌜ length ≤ longest ⌝ }
+    ensures { λ r. ⌜ r ≡ cond (marked (control .private) id) (longest - length) 0 ⌝ }
+{
+    if marks::has(control.private, id) {
+        LONGEST - length
+    } else {
+        0
+    }
+}
+
+// Takes the first packet out of an id's queue. Its place is free again.
+fn pop(clients: &mut [u32; CLIENTS], id: u32)
+    requires { ⌜ (id < ids) × (headAt (now clients) id < places) × (0 < countAt (now clients) id) ⌝ }
+    ensures { λ r. ⌜ now (clients .exit) ≡ popped (now (clients .entry)) id ⌝ }
+{
+    let head = (HEAD + id) as usize;
+    let count = (COUNT + id) as usize;
+    let first = clients[head];
+    let waiting = clients[count];
+    clients[head] = (first + 1) % PLACES;
+    clients[count] = waiting - 1;
+}
+
+// Takes a place out of the order of acceptance, where only indifferent packets stand.
+fn leave_order(control: Control, links: &mut [u32; LINKS], id: u32, place: u32)
+    requires { ⌜ Sound (now links) ⌝ }
+    ensures { λ r. ⌜ Unlinked (marked (control .indifferent) id) place (now (links .entry)) (now (links .exit)) ⌝ }
+{
+    if marks::has(control.indifferent, id) {
+        order::unlink(links, place);
+    }
+}
+
+// The control after a packet of an id went: the id's mark goes with the last one.
+fn settle(control: Control, left: u32, id: u32) -> Control
+    ensures { λ r. ⌜ Settled control left id r ⌝ }
+{
+    if left != 0 {
+        return control;
+    }
+    let generator = control.generator;
+    Control {
+        opened: control.opened,
+        threshold: control.threshold,
+        discipline: control.discipline,
+        generator,
+        rates: control.rates,
+        indifferent: control.indifferent,
+        private: control.private,
+        waiting: marks::unmark(control.waiting, id),
+    }
+}
+
+// An id sends its first packet: it goes from the queue, from the order and, with the last one, from the marks.
+fn send_packet(
+    control: Control,
+    clients: &mut [u32; CLIENTS],
+    handles: &[u32; STORE],
+    lengths: &[u32; STORE],
+    links: &mut [u32; LINKS],
+    id: u32,
+) -> Sent
+    requires { ⌜ Sender control (tables (now clients) (now handles) (now lengths) (now links)) id
+        × (0 < countAt (now clients) id) ⌝ }
+    ensures { λ r. ⌜ Spent control
+        (tables (now (clients .entry)) (now (handles .entry)) (now (lengths .entry)) (now (links .entry))) id r
+        (tables (now (clients .exit)) (now (handles .entry)) (now (lengths .entry)) (now (links .exit))) ⌝ }
+{
+    let place = id * PLACES + clients[(HEAD + id) as usize];
+    let packet = packet_at(handles, lengths, place);
+    let added = padding(control, id, packet.length);
+    pop(clients, id);
+    leave_order(control, links, id, place);
+    let after = settle(control, clients[(COUNT + id) as usize], id);
+    Sent {
+        control: after,
+        outcome: Outcome::Real {
+            id,
+            packet,
+            padding: added,
+        },
+    }
+}
+
+// An id sends in its slot: its first packet; without one a dummy, which lowers its pool; without either it idles.
+fn send(
+    control: Control,
+    clients: &mut [u32; CLIENTS],
+    handles: &[u32; STORE],
+    lengths: &[u32; STORE],
+    links: &mut [u32; LINKS],
+    id: u32,
+) -> Sent
+    requires { ⌜ Sender control (tables (now clients) (now handles) (now lengths) (now links)) id ⌝ }
+    ensures { λ r. ⌜ Spent control
+        (tables (now (clients .entry)) (now (handles .entry)) (now (lengths .entry)) (now (links .entry))) id r
+        (tables (now (clients .exit)) (now (handles .entry)) (now (lengths .entry)) (now (links .exit))) ⌝ }
+{
+    if marks::has(control.waiting, id) {
+        return send_packet(control, clients, handles, lengths, links, id);
+    }
+    let at = (POOL + id) as usize;
+    let pool = clients[at];
+    if 0 < pool {
+        clients[at] = pool - 1;
+        return Sent {
+            control,
+            outcome: Outcome::Dummy { id },
+        };
+    }
+    Sent {
+        control,
+        outcome: Outcome::Idle { id },
+    }
+}
+
+// The one whose turn it is sends, and the generator after the pick is kept. In nobody's slot nothing goes.
+fn spend(
+    control: Control,
+    clients: &mut [u32; CLIENTS],
+    handles: &[u32; STORE],
+    lengths: &[u32; STORE],
+    links: &mut [u32; LINKS],
+    choice: Choice,
+) -> Sent
+    requires { ⌜ Due control (tables (now clients) (now handles) (now lengths) (now links)) choice ⌝ }
+    ensures { λ r. ⌜ Done control
+        (tables (now (clients .entry)) (now (handles .entry)) (now (lengths .entry)) (now (links .entry))) r
+        (tables (now (clients .exit)) (now (handles .entry)) (now (lengths .entry)) (now (links .exit))) ⌝ }
+{
+    let generator = choice.generator;
+    let after = Control {
+        opened: control.opened,
+        threshold: control.threshold,
+        discipline: control.discipline,
+        generator,
+        rates: control.rates,
+        indifferent: control.indifferent,
+        private: control.private,
+        waiting: control.waiting,
+    };
+    if choice.rule != NOBODY {
+        return send(after, clients, handles, lengths, links, choice.id);
+    }
+    Sent {
+        control: after,
+        outcome: Outcome::None,
+    }
+}
+
+// A bucket's level after a refill: the rate is added, up to the burst. Within the limits no sum wraps.
+fn refill(level: u32, rate: u32, burst: u32) -> u32
+    requires { ⌜ (level ≤ burst * shares) × (rate ≤ shares) × (burst ≤ burstLimit) ⌝ }
+    ensures { λ r. ⌜ r ≡ min (level + rate) (burst * shares) ⌝ }
+{
+    let full = burst * SHARES;
+    let sum = level + rate;
+    if sum < full { sum } else { full }
+}
+
+// Refills the bucket of every marked id where it is kept. Ids without a mark are not visited.
+fn refill_all(word: u64, clients: &mut [u32; CLIENTS])
+    requires { ⌜ Refillable word (now clients) ⌝ }
+    ensures { λ r. ⌜ Refilled word (now (clients .entry)) (now (clients .exit)) ⌝ }
+{
+    let mut left = word;
+    while left != 0 {
+        let id = marks::first(left);
+        let at = (LEVEL + id) as usize;
+        clients[at] = refill(
+            clients[at],
+            clients[id as usize],
+            clients[(BURST + id) as usize],
+        );
+        left = marks::rest(left);
+    }
+}
+
+// One slot (paper 01, "Tick is one slot"): rules 1 to 3 say whose it is, and rule 4 refills after the pick.
+pub fn tick(
+    control: Control,
+    clients: &mut [u32; CLIENTS],
+    handles: &[u32; STORE],
+    lengths: &[u32; STORE],
+    links: &mut [u32; LINKS],
+) -> Answered
+    requires { ⌜ Valid control (tables (now clients) (now handles) (now lengths) (now links)) ⌝ }
+    ensures { λ r. ⌜ Meets Tick control
+        (tables (now (clients .entry)) (now (handles .entry)) (now (lengths .entry)) (now (links .entry))) r
+        (tables (now (clients .exit)) (now (handles .entry)) (now (lengths .entry)) (now (links .exit))) ⌝ }
+{
+    if !control.opened {
+        return tables::refused(control, UNOPENED);
+    }
+    let choice = turn(control, clients, links);
+    let sent = spend(control, clients, handles, lengths, links, choice);
+    refill_all(control.indifferent, clients);
+    let after = sent.control;
+    let outcome = sent.outcome;
+    Answered {
+        control: after,
+        answer: Answer::Slot { outcome },
+    }
+}
