@@ -8,13 +8,15 @@ use mathlib.Core.Option.{Option, none, some}
 use native.Mathlib.Omega.{arith}
 use lib.Dec.{eqb}
 use lib.ListN.{length}
+use Rattle.definitions.specs.declared.Answer.{Answer}
 use Rattle.definitions.proofs.Laws.Tests.{true-false}
 use Rattle.grammar.specs.declared.Line.{Line}
 use Rattle.grammar.specs.declared.Line.the-variants.{Form, Refused}
 use Rattle.grammar.specs.Bytes.{bytes}
-use Rattle.grammar.specs.Numerals.{isDigit, leading, behind, isNumeral, valueFrom}
-use Rattle.grammar.specs.Templates.{gap, withNumber, matched}
+use Rattle.grammar.specs.Numerals.{isDigit, leading, behind, isNumeral, valueFrom, digits, decimal}
+use Rattle.grammar.specs.Templates.{gap, withNumber, filled, matched}
 use Rattle.grammar.specs.Grammar.{Rule, rules, numbersFit, sized, orElse, parsedBy, parsed}
+use Rattle.grammar.specs.Printout.{printed}
 
 -- digits and what stands behind them are the whole
 leading-behind : (l : List ℕ) → length (leading l) + length (behind l) ≡ length l
@@ -69,7 +71,7 @@ matched-length (b ∷ bs) (x ∷ xs) = go (eqb b gap) (eqb b x) (isNumeral (lead
     go false false d e f h = tt
 
 -- a line that holds a form is at least as long as the shortest template of some rules
-abbrev Holds : List ℕ → ℕ → Line → Type 0
+abbrev pub Holds : List ℕ → ℕ → Line → Type 0
 Holds l n (Form call) = n ≤ length l
 Holds l n (Refused number) = Unit {0}
 
@@ -94,3 +96,29 @@ parsedBy-length n (r ∷ rs) fits l = go (matched (bytes (r .template)) l) (matc
 pub parsed-length : (l : List ℕ) → Holds l 6 (parsed l)
 unfolding parsed rules
 parsed-length l = parsedBy-length 6 rules (omega arith) l
+
+-- a line without a form prints thirteen bytes
+abbrev pub Unread : Line → Type 0
+Unread (Form call) = Unit {0}
+Unread (Refused number) = length (printed (Answer.Refused number)) ≡ 13
+
+parsedBy-unread : (rs : List Rule) (l : List ℕ) → Unread (parsedBy rs l)
+unfolding parsedBy sized printed filled decimal digits
+parsedBy-unread [] l = refl
+parsedBy-unread (r ∷ rs) l = go (matched (bytes (r .template)) l) (parsedBy-unread rs l)
+  where
+    size : (ns : List ℕ) (b : Bool) → Unread (cond b (Form (r .call ns)) (Refused 17))
+    size ns true = tt
+    size ns false = refl
+
+    go : (o : Option (List ℕ)) → Unread (parsedBy rs l) → Unread (orElse (r .call) o (parsedBy rs l))
+    go none rest = rest
+    go (some ns) rest = size ns (numbersFit ns)
+
+pub parsed-unread : (l : List ℕ) → Unread (parsed l)
+unfolding parsed
+parsed-unread l = parsedBy-unread rules l
+
+pub sixteen-length : length (printed (Answer.Refused 16)) ≡ 13
+unfolding printed filled decimal digits
+sixteen-length = refl

@@ -34,13 +34,16 @@ asked-all true false c more none = absurd (omega arith)
 asked-all false b c more none = absurd (omega arith)
 
 module _ (c : Control) (t : Tables) (id : ℕ) where
-  leave-asks : refusal c t (λ s. leaveChecks s id) ≡ asked (c .opened) (ltb id ids) (isActive (clientsOf c t id .kind)) 0
+  abbrev active : Bool
+  active = isActive (clientsOf c t id .kind)
+
+  leave-asks : refusal c t (λ s. leaveChecks s id) ≡ asked (c .opened) (ltb id ids) active 0
   unfolding refusal firstFailed leaveChecks activeChecks stateOf
   leave-asks = refl
 
   module _ (none : refusal c t (λ s. leaveChecks s id) ≡ 0) where
-    passed : (c .opened ≡ true) × (ltb id ids ≡ true) × (asked (c .opened) (ltb id ids) (isActive (clientsOf c t id .kind)) 0 ≡ 0)
-    passed = asked-all (c .opened) (ltb id ids) (isActive (clientsOf c t id .kind)) 0 (sym leave-asks ∙ none)
+    passed : (c .opened ≡ true) × (ltb id ids ≡ true) × (asked (c .opened) (ltb id ids) active 0 ≡ 0)
+    passed = asked-all (c .opened) (ltb id ids) active 0 (sym leave-asks ∙ none)
 
     pub leave-opened : c .opened ≡ true
     leave-opened = passed .0
@@ -53,14 +56,18 @@ module _ (c : Control) (t : Tables) (id : ℕ) where
     abbrev terms : ℕ
     terms = firstFailed (termChecks (c .threshold) (rates (clientsOf c t) - clientsOf c t id .rate) kind rate burst)
 
-    change-asks : refusal c t (λ s. changeChecks s id kind rate burst) ≡ asked (c .opened) (ltb id ids) (isActive (clientsOf c t id .kind)) terms
+    change-asks : refusal c t (λ s. changeChecks s id kind rate burst)
+        ≡ asked (c .opened) (ltb id ids) active terms
     unfolding refusal firstFailed changeChecks activeChecks stateOf
     change-asks = refl
 
-    pub change-first : (n : ℕ) → n ≡ refusal c t (λ s. leaveChecks s id) → n ≢ 0 → n ≡ refusal c t (λ s. changeChecks s id kind rate burst)
+    pub change-first : (n : ℕ)
+        → n ≡ refusal c t (λ s. leaveChecks s id)
+        → n ≢ 0
+        → n ≡ refusal c t (λ s. changeChecks s id kind rate burst)
     change-first n e some =
         e ∙ leave-asks
-        ∙ asked-first (c .opened) (ltb id ids) (isActive (clientsOf c t id .kind)) terms (λ z. some (e ∙ leave-asks ∙ z))
+        ∙ asked-first (c .opened) (ltb id ids) active terms (λ z. some (e ∙ leave-asks ∙ z))
         ∙ sym change-asks
 
     pub change-terms : Sound-core c t → refusal c t (λ s. leaveChecks s id) ≡ 0
@@ -71,5 +78,5 @@ module _ (c : Control) (t : Tables) (id : ℕ) where
         ap (λ (n : ℕ). firstFailed (termChecks (c .threshold) n kind rate burst))
         (ap₂ (λ (m n : ℕ). m - n) (sound .shape .ratesHeld)
         (ap (λ (x : Client). x .rate) (sym (client-own c t (sound .shape) id (leave-below none)))))
-        ∙ sym (asked-all (c .opened) (ltb id ids) (isActive (clientsOf c t id .kind)) terms (sym leave-asks ∙ none) .2)
+        ∙ sym (asked-all (c .opened) (ltb id ids) active terms (sym leave-asks ∙ none) .2)
         ∙ sym change-asks

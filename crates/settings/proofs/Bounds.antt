@@ -42,11 +42,17 @@ pub record Fitting (kind rate burst : ℕ) : Type 0 where
   pub rateHigh : rate ≤ shares
   pub burstHigh : burst ≤ burstLimit
 
-pub terms-fit : (threshold others kind rate burst : ℕ) → Passed (termChecks threshold others kind rate burst) → Fitting kind rate burst
+pub terms-fit : (threshold others kind rate burst : ℕ)
+    → Passed (termChecks threshold others kind rate burst)
+    → Fitting kind rate burst
 unfolding termChecks
 terms-fit threshold others kind rate burst p =
     let terms = terms-passed threshold others kind rate burst p in
-    record { active = p .0; rateHigh = rate-high (kindOf kind) rate (terms .rates); burstHigh = burst-high (kindOf kind) burst (terms .bursts) }
+    record {
+      active = p .0;
+      rateHigh = rate-high (kindOf kind) rate (terms .rates);
+      burstHigh = burst-high (kindOf kind) burst (terms .bursts);
+    }
 
 -- such a client holds its rate of the threshold
 pub fitting-holds : (kind rate burst : ℕ) → Fitting kind rate burst → held (joining kind rate burst) ≡ rate
@@ -57,7 +63,8 @@ module _ (c : Control) (t : Tables) (sound : Sound-core c t) (id : ℕ) (below :
   count-high : countAt (t .clients) id ≤ places
   unfolding clientAt queueAt
   count-high =
-      let high = queue-high (clientAt c t id .kind) (clientAt c t id .queue) (limits-parts (clientAt c t id) (limits-own c t sound id below) .queues) in
+      let x = clientAt c t id in
+      let high = queue-high (x .kind) (x .queue) (limits-parts x (limits-own c t sound id below) .queues) in
       let n = countAt (t .clients) id in
       let r = ring id (headAt (t .clients) id) n in
       omega (arith, high, length-map r (packetAt t), ring-length id (headAt (t .clients) id) n)

@@ -36,11 +36,13 @@ module _ (s : State) (id kind rate burst : ℕ) where
   abbrev made : State
   made = updated s id (changed (s .clients id) kind rate burst) (orderAfterChange s id kind)
 
-  made-kept : sameKind (s .clients id .kind) (kindOf kind) ≡ true → updated s id (retuned (s .clients id) rate burst) (s .order) ≡ made
+  made-kept : sameKind (s .clients id .kind) (kindOf kind) ≡ true
+      → updated s id (retuned (s .clients id) rate burst) (s .order) ≡ made
   unfolding changed orderAfterChange
   made-kept e = rw e
 
-  made-anew : sameKind (s .clients id .kind) (kindOf kind) ≡ false → updated s id (joining kind rate burst) (without id (s .order)) ≡ made
+  made-anew : sameKind (s .clients id .kind) (kindOf kind) ≡ false
+      → updated s id (joining kind rate burst) (without id (s .order)) ≡ made
   unfolding changed orderAfterChange
   made-anew e = rw e
 
@@ -121,7 +123,8 @@ module _ (c : Control) (t : Tables) (valid : Valid c t) (id kind rate burst : �
           → Meets (Change id kind rate burst) c t r (placedTables t id rate burst links)
       unfolding changes
       change-placed differs r e =
-          accepted-with (Change id kind rate burst) (changes id kind rate burst) c t valid none r d (placedTables t id rate burst links) e
+          accepted-with (Change id kind rate burst) (changes id kind rate burst) c t valid none r d
+          (placedTables t id rate burst links) e
           (placed-opened c t id kind rate burst d links placement ∙ runs)
           (placed-state c t id kind rate burst d links placement
           ∙ made-anew (stateOf c t) id kind rate burst (ap (λ (k : Kind). sameKind k (kindOf kind)) kind-here ∙ differs))

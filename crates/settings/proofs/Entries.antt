@@ -41,9 +41,11 @@ module _ (xs : List ℕ) (size : length xs ≡ 6 * ids) (id rate burst : ℕ) (b
 
   pub client-own : (m : ℕ)
       → field m (withClient xs id rate burst) id
-      ≡ cond (eqb m 5) 0 (cond (eqb m 3) 0 (cond (eqb m 2) (burst * shares) (cond (eqb m 1) burst (cond (eqb m 0) rate (field m xs id)))))
+      ≡ cond (eqb m 5) 0 (cond (eqb m 3) 0 (cond (eqb m 2) (burst * shares)
+      (cond (eqb m 1) burst (cond (eqb m 0) rate (field m xs id)))))
   client-own m =
-      store-own (set (withTerms xs id rate burst (burst * shares)) (3 * ids + id) 0) 5 m id 0 (omega arith) below (simp length-set size)
+      store-own (set (withTerms xs id rate burst (burst * shares)) (3 * ids + id) 0) 5 m id 0 (omega arith) below
+      (simp length-set size)
       ∙ ap (cond (eqb m 5) 0)
       (store-own (withTerms xs id rate burst (burst * shares)) 3 m id 0 (omega arith) below (simp length-set size)
       ∙ ap (cond (eqb m 3) 0) (terms-own xs size id rate burst (burst * shares) below m))

@@ -91,8 +91,10 @@ module _ (c : Control) (t : Tables) (valid : Valid c t) (id kind rate burst : �
           → Meets (Join id kind rate burst) c t r (placedTables t id rate burst (t .links))
       unfolding joins
       join-accepted r e =
-          accepted-with (Join id kind rate burst) (joins id kind rate burst) c t valid none r d (placedTables t id rate burst (t .links)) e
-          (placed-opened c t id kind rate burst d (t .links) placement ∙ opened (Join id kind rate burst) (joins id kind rate burst) c t valid none)
+          accepted-with (Join id kind rate burst) (joins id kind rate burst) c t valid none r d
+          (placedTables t id rate burst (t .links)) e
+          (placed-opened c t id kind rate burst d (t .links) placement
+          ∙ opened (Join id kind rate burst) (joins id kind rate burst) c t valid none)
           (placed-state c t id kind rate burst d (t .links) placement
           ∙ ap (updated (stateOf c t) id (joining kind rate burst)) order-kept)
           (placed-shape c t id kind rate burst d (t .links) placement)

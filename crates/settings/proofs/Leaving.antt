@@ -1,5 +1,5 @@
--- A leave: the id's places leave the order, and nobody is put in its place. Nobody is what a client of no type, rate 0 and burst 0
--- would be. Assumes nothing.
+-- A leave: the id's places leave the order, and nobody is put in its place. Nobody is what a client of no type, rate 0 and
+-- burst 0 would be. Assumes nothing.
 use Prim.Native.Nat.{ℕ, _<_}
 use mathlib.Core.Path.{_≡_, refl, ap, _∙_}
 use mathlib.Core.Logic.{_≢_}
@@ -74,7 +74,8 @@ module _ (c : Control) (t : Tables) (valid : Valid c t) (id : ℕ) where
         away = withdrawn c t sound id below links away;
       }
 
-      pub leave-accepted : (r : Answered) → r ≡ record { control = d; answer = Accepted } → Meets (Leave id) c t r (placedTables t id 0 0 links)
+      pub leave-accepted : (r : Answered) → r ≡ record { control = d; answer = Accepted }
+          → Meets (Leave id) c t r (placedTables t id 0 0 links)
       unfolding leaves
       leave-accepted r e =
           accepted-with (Leave id) (leaves id) c t valid none r d (placedTables t id 0 0 links) e

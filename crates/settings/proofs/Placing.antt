@@ -55,7 +55,8 @@ pub record Placement (c : Control) (t : Tables) (id kind rate burst : ℕ) (d : 
   pub tight : Sound links
   pub away : Withdrawn links id (sound .shape .order)
 
-module _ (c : Control) (t : Tables) (id kind rate burst : ℕ) (d : Control) (links : List ℕ) (p : Placement c t id kind rate burst d links) where
+module _ (c : Control) (t : Tables) (id kind rate burst : ℕ) (d : Control) (links : List ℕ)
+    (p : Placement c t id kind rate burst d links) where
   abbrev after : Tables
   after = placedTables t id rate burst links
 
@@ -97,7 +98,8 @@ module _ (c : Control) (t : Tables) (id kind rate burst : ℕ) (d : Control) (li
     head = rw (own 4) (old .heads id (p .below));
     waits = p .cast .waiting .own ∙ rw (own 5);
     apart = λ e. p .cast .indifferent .own ∙ apart-kinds (kindOf kind) (sym (p .cast .private .own) ∙ e);
-    ratesHeld = p .cast .rates ∙ rates-traded c t (p .sound) id (p .below) rate (clientAt d after id) (ap held client-after ∙ p .holds);
+    ratesHeld = p .cast .rates
+        ∙ rates-traded c t (p .sound) id (p .below) rate (clientAt d after id) (ap held client-after ∙ p .holds);
     sound = p .tight;
     order = p .away .order;
     ordered = p .away .ordered;

@@ -74,7 +74,10 @@ recast-kind c d id kind k = rw (k .indifferent .own, k .private .own) (go kind)
     go private = refl
 
 -- an active id without the mark of the one type is of the other
-pub other-kind : (c : Control) (id : ℕ) → marked (c .indifferent) id ≡ false → isActive (kindAt c id) ≡ true → kindAt c id ≡ private
+pub other-kind : (c : Control) (id : ℕ)
+    → marked (c .indifferent) id ≡ false
+    → isActive (kindAt c id) ≡ true
+    → kindAt c id ≡ private
 unfolding kindAt
 other-kind c id none active = rw none (go (marked (c .private) id) (rw none at active))
   where

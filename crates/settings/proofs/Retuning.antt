@@ -96,6 +96,7 @@ module _ (c : Control) (t : Tables) (sound : Sound-core c t) (id rate burst : �
     discipline = c .discipline;
     generator = c .generator .value;
     clients = (touch-clients c t old d after id touch
-        ∙ ap (put (clientsOf c t) id) (client-after ∙ ap (λ (x : Client). retuned x rate burst) (sym (client-own c t old id below)))) i;
+        ∙ ap (put (clientsOf c t) id) (client-after
+        ∙ ap (λ (x : Client). retuned x rate burst) (sym (client-own c t old id below)))) i;
     order = orderOf t;
   }

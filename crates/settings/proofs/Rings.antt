@@ -24,7 +24,9 @@ pub withdrawing-start : (links : List ℕ) (id head n : ℕ) (start : List ℕ)
 withdrawing-start links id head n start o e = record { order = start; ordered = o; left = e; kept = emptying-start id start }
 
 pub withdrawing-step : (links after : List ℕ) (id head n : ℕ) (start : List ℕ)
-    → ((before behind : List ℕ) → Ordered links (before ++ (id * places + head % places) ∷ behind) → Ordered after (before ++ behind))
+    → ((before behind : List ℕ)
+    → Ordered links (before ++ (id * places + head % places) ∷ behind)
+    → Ordered after (before ++ behind))
     → Withdrawing links id head (suc n) start
     → Withdrawing after id (suc head) n start
 unfolding ring
@@ -38,7 +40,9 @@ withdrawing-step links after id head n start unlinked w = record {
     t : Taken id (w .order) (id * places + head % places) (ring id (suc head) n)
     t = placesOf-taken id (id * places + head % places) (ring id (suc head) n) (w .order) (w .left)
 
-pub withdrawing-done : (links : List ℕ) (id head : ℕ) (start : List ℕ) → Withdrawing links id head 0 start → Withdrawn links id start
+pub withdrawing-done : (links : List ℕ) (id head : ℕ) (start : List ℕ)
+    → Withdrawing links id head 0 start
+    → Withdrawn links id start
 unfolding ring
 withdrawing-done links id head start w = record {
   order = w .order;
@@ -52,7 +56,10 @@ withdrawing-done links id head start w = record {
 pub order-without : (id : ℕ) (start : List ℕ) → placesOf id start ≡ [] → without id (map owner start) ≡ map owner start
 order-without id start e = owner-without-none id start (placesOf-none id start e)
 
-pub withdrawn-none : (links : List ℕ) (id : ℕ) (start : List ℕ) → Ordered links start → placesOf id start ≡ [] → Withdrawn links id start
+pub withdrawn-none : (links : List ℕ) (id : ℕ) (start : List ℕ)
+    → Ordered links start
+    → placesOf id start ≡ []
+    → Withdrawn links id start
 withdrawn-none links id start o e = record {
   order = start;
   ordered = o;

@@ -80,7 +80,7 @@ module _ (word left : ℕ) (before now : List ℕ) (old : Refillable word before
 
   pub first-bucket : Bucket now id
   first-bucket =
-      let b = old .buckets id first-below first-word in
+      let b = old .buckets id first-below in
       let rate : rateAt now id ≡ rateAt before id = f .others 0 id first-below (omega arith) in
       let burst : burstAt now id ≡ burstAt before id = f .others 1 id first-below (omega arith) in
       record {

@@ -1,5 +1,6 @@
 -- The laws of a slot, over the lists that the tables hold.
 pub mod Filling
+pub mod Sweeping
 pub mod Choosing
 pub mod Sending
 pub mod Slotting

@@ -1,32 +1,53 @@
 -- A tick, put together of its parts: a turn is done, and then the buckets are refilled. Assumes nothing.
-use Prim.Native.Nat.{ℕ, _<_}
+use Prim.Native.Nat.{ℕ, _≤_, _<_}
 use mathlib.Core.Path.{_≡_, refl, sym, ap, subst, _∙_}
 use mathlib.Core.Bool.{true, false}
 use mathlib.Core.List.{List}
 use Rattle.definitions.specs.declared.Call.the-variants.{Tick}
 use Rattle.definitions.specs.declared.Answer.the-variants.{Refused, Slot}
-use Rattle.definitions.specs.Sizes.{ids}
-use Rattle.definitions.specs.Client.{Kind, indifferent, Client, spent}
+use native.Mathlib.Omega.{arith}
+use Rattle.definitions.specs.Sizes.{ids, shares, burstLimit}
+use Rattle.definitions.specs.Client.{Kind, absent, indifferent, private, isIndifferent, Client, spent}
 use Rattle.definitions.specs.State.{State, Core, running, unopened}
 use Rattle.definitions.specs.Checks.{Result, refused}
 use Rattle.definitions.specs.Tick.{turn, slotted, onTick}
 use Rattle.definitions.specs.Core.{step}
-use Rattle.definitions.specs.Limits.{IndifferentLimits, LimitsBy, StateLimits}
+use Rattle.definitions.specs.Limits.{StateLimits}
+use Rattle.definitions.proofs.Laws.Tests.{true-false}
 use Rattle.definitions.proofs.Laws.Clients.{sent-keeps}
 use Rattle.definitions.proofs.Limits.{step-limits}
+use Rattle.definitions.proofs.Limits.Client.{RateBy, BurstBy, Parts, limits-parts}
 use Rattle.marks.specs.Marks.{marked}
 use Rattle.tables.specs.declared.Control.{Control}
 use Rattle.tables.specs.declared.Answered.{Answered}
 use Rattle.tables.specs.Tables.{Tables, tables, rateAt, burstAt, levelAt}
-use Rattle.tables.specs.Meaning.{kindAt, clientAt, clientsOf, stateOf, coreOf}
+use Rattle.tables.specs.Meaning.{clientAt, clientsOf, stateOf, coreOf}
 use Rattle.tables.specs.Invariant.{Valid}
 use Rattle.tables.specs.Promise.{Meets}
 use Rattle.tables.proofs.Promises.{coreOf-opened, coreOf-shut}
+use Rattle.tables.proofs.Marking.{kind-indifferent}
 use Rattle.tables.proofs.Touch.{client-own}
 use Rattle.slot.specs.declared.Sent.{Sent}
 use Rattle.slot.specs.Buckets.{Refillable, Refilled}
 use Rattle.slot.specs.Slots.{unfilled, Done}
 use Rattle.slot.proofs.Refilling.{refill-shape, refill-state}
+
+-- what the limits say of any client's rate and burst
+
+rate-high : (k : Kind) (rate : ℕ) → RateBy k rate → rate ≤ shares
+rate-high absent rate e = omega (arith, e)
+rate-high indifferent rate e = e .1
+rate-high private rate e = e .1
+
+burst-high : (k : Kind) (burst : ℕ) → BurstBy k burst → burst ≤ burstLimit
+burst-high absent burst e = omega (arith, e)
+burst-high indifferent burst e = e .1
+burst-high private burst e = omega (arith, e)
+
+burst-none : (k : Kind) (burst : ℕ) → isIndifferent k ≡ false → BurstBy k burst → burst ≡ 0
+burst-none absent burst n e = e
+burst-none indifferent burst n e = true-false refl n
+burst-none private burst n e = e
 
 module _ (c : Control) (t : Tables) (valid : Valid c t) where
   pub tick-refused : c .opened ≡ false → (r : Answered) → r ≡ record { control = c; answer = Refused 19 } → Meets Tick c t r t
@@ -61,28 +82,33 @@ module _ (c : Control) (t : Tables) (valid : Valid c t) where
           → f (clientAt (r .control) u j) ≡ f (clientsOf c t j)
       number f keeps j l = sym (ap f (client-own (r .control) u (done .shape) j l)) ∙ same f keeps j
 
-      bucket-limits : (j : ℕ) → j < ids → marked (c .indifferent) j ≡ true → IndifferentLimits (clientsOf c t j)
-      unfolding stateOf clientAt kindAt
-      bucket-limits j l marks =
-          subst (λ (k : Kind). LimitsBy k (clientsOf c t j)) kind (valid ready .limits .clientLimits j)
-        where
-          kind : clientsOf c t j .kind ≡ indifferent
-          kind = ap (λ (x : Client). x .kind) (client-own c t (valid ready .shape) j l) ∙ rw marks
+      parts : (j : ℕ) → Parts (clientsOf c t j)
+      unfolding stateOf
+      parts j = limits-parts (clientsOf c t j) (valid ready .limits .clientLimits j)
+
+      kind-unmarked : (j : ℕ) → j < ids → marked (c .indifferent) j ≡ false → isIndifferent (clientsOf c t j .kind) ≡ false
+      unfolding clientAt
+      kind-unmarked j l marks =
+          ap (λ (x : Client). isIndifferent (x .kind)) (client-own c t (valid ready .shape) j l)
+          ∙ kind-indifferent c j
+          ∙ marks
 
       pub done-refillable : Refillable (c .indifferent) (u .clients)
       unfolding spent clientAt
       done-refillable = record {
         size = done .shape .sizes .clients;
-        buckets = λ j l marks.
-            let known = bucket-limits j l marks in
+        buckets = λ j l.
             let level : levelAt (u .clients) j ≡ clientsOf c t j .level = number (λ x. x .level) (λ x. refl) j l in
             let rate : rateAt (u .clients) j ≡ clientsOf c t j .rate = number (λ x. x .rate) (λ x. refl) j l in
             let burst : burstAt (u .clients) j ≡ clientsOf c t j .burst = number (λ x. x .burst) (λ x. refl) j l in
             record {
-              level = rw (level, burst) (known .levelHigh);
-              rate = rw rate (known .active .rateHigh);
-              burst = rw burst (known .burstHigh);
+              level = rw (level, burst) (parts j .levels);
+              rate = rw rate (rate-high (clientsOf c t j .kind) (clientsOf c t j .rate) (parts j .rates));
+              burst = rw burst (burst-high (clientsOf c t j .kind) (clientsOf c t j .burst) (parts j .bursts));
             };
+        none = λ j l marks.
+            number (λ x. x .burst) (λ x. refl) j l
+            ∙ burst-none (clientsOf c t j .kind) (clientsOf c t j .burst) (kind-unmarked j l marks) (parts j .bursts);
       }
 
       pub tick-done : (clients : List ℕ) → Refilled (c .indifferent) (u .clients) clients

@@ -2,7 +2,7 @@
 use Prim.Native.Nat.{ℕ, _+_, _*_, _≤_, _<_, min}
 use mathlib.Core.Path.{_≡_}
 use mathlib.Core.Logic.{_≢_}
-use mathlib.Core.Bool.{true, cond}
+use mathlib.Core.Bool.{false, cond}
 use mathlib.Core.List.{List}
 use lib.ListN.{length}
 use Rattle.definitions.specs.Sizes.{ids, shares, burstLimit}
@@ -15,9 +15,11 @@ pub record Bucket (clients : List ℕ) (id : ℕ) : Type 0 where
   pub rate : rateAt clients id ≤ shares
   pub burst : burstAt clients id ≤ burstLimit
 
+-- The ids without a mark have no bucket: burst and level are 0, and a refill leaves them so.
 pub record Refillable (word : ℕ) (clients : List ℕ) : Type 0 where
   pub size : length clients ≡ 6 * ids
-  pub buckets : (id : ℕ) → id < ids → marked word id ≡ true → Bucket clients id
+  pub buckets : (id : ℕ) → id < ids → Bucket clients id
+  pub none : (id : ℕ) → id < ids → marked word id ≡ false → burstAt clients id ≡ 0
 
 -- "the rate is added, up to burst × 1024"
 unfoldable pub levelAfter : List ℕ → ℕ → ℕ

@@ -38,6 +38,16 @@ ghost use Rattle.slot.specs.Buckets.{Refillable, Refilled};
 // The discipline by which the packet that was accepted earliest goes first.
 const FIRST_COME: u32 = 0;
 
+// From how many indifferent ids on all ids are gone through.
+const DENSE: u32 = 12;
+
+// How many ids there are, and where the bursts and the levels begin in the clients' table.
+const EACH: usize = 64;
+
+const FIRST_BURST: usize = 64;
+
+const FIRST_LEVEL: usize = 128;
+
 // The number of the rule by which a slot has nobody.
 const NOBODY: u32 = 3;
 
@@ -278,8 +288,20 @@ fn refill(level: u32, rate: u32, burst: u32) -> u32
     if sum < full { sum } else { full }
 }
 
-// Refills the bucket of every marked id where it is kept. Ids without a mark are not visited.
+// Refills the bucket of every marked id where it is kept. Where most ids are marked, it is quicker to go through all.
 fn refill_all(word: u64, clients: &mut [u32; CLIENTS])
+    requires { ⌜ Refillable word (now clients) ⌝ }
+    ensures { λ r. ⌜ Refilled word (now (clients .entry)) (now (clients .exit)) ⌝ }
+{
+    if u64::count_ones(word) < DENSE {
+        refill_marked(word, clients);
+    } else {
+        refill_each(word, clients);
+    }
+}
+
+// By the marks: ids without one are not visited.
+fn refill_marked(word: u64, clients: &mut [u32; CLIENTS])
     requires { ⌜ Refillable word (now clients) ⌝ }
     ensures { λ r. ⌜ Refilled word (now (clients .entry)) (now (clients .exit)) ⌝ }
 {
@@ -293,6 +315,22 @@ fn refill_all(word: u64, clients: &mut [u32; CLIENTS])
             clients[(BURST + id) as usize],
         );
         left = marks::rest(left);
+    }
+}
+
+// By the ids: one without a mark has no bucket, and stays without. The compiler takes several ids at a time.
+fn refill_each(word: u64, clients: &mut [u32; CLIENTS])
+    requires { ⌜ Refillable word (now clients) ⌝ }
+    ensures { λ r. ⌜ Refilled word (now (clients .entry)) (now (clients .exit)) ⌝ }
+{
+    let mut id: usize = 0;
+    while id < EACH {
+        clients[FIRST_LEVEL + id] = refill(
+            clients[FIRST_LEVEL + id],
+            clients[id],
+            clients[FIRST_BURST + id],
+        );
+        id += 1;
     }
 }
 

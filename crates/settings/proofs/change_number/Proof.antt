@@ -34,7 +34,8 @@ element-copy-out-others : tie.Need-element-copy-out-others
 unfolding ids
 element-copy-out-others c =
     let start = c .before .before in
-    omega (arith, leave-below (start .args .control) (some start) (start .args .id) (sym (c .before .leave-number .ensures (some start)) ∙ c .if1 .left))
+    let none = sym (c .before .leave-number .ensures (some start)) ∙ c .if1 .left in
+    omega (arith, leave-below (start .args .control) (some start) (start .args .id) none)
 
 sub-others : tie.Need-sub-others
 unfolding ids field

@@ -45,10 +45,12 @@ returns-4 c t valid =
     let start = e .before .before .before in
     let a = start .args in
     let runs = not-false (a .control .opened) (e .before .if1 .left) in
-    let dull : isActive (kindAt (a .control) (a .id)) ≡ false = sym (c .before .before .active .ensures) ∙ c .before .if3 .left in
+    let dull : isActive (kindAt (a .control) (a .id)) ≡ false =
+    sym (c .before .before .active .ensures) ∙ c .before .if3 .left in
     let held = valid runs .shape .ratesHeld in
     simp (runs, lt-ltb (a .id) 64 (e .if2 .left), dull)
-    (c .terms-number .ensures ∙ ap (λ (n : ℕ). firstFailed (termChecks (a .control .threshold) n (a .kind) (a .rate) (a .burst))) held)
+    (c .terms-number .ensures
+    ∙ ap (λ (n : ℕ). firstFailed (termChecks (a .control .threshold) n (a .kind) (a .rate) (a .burst))) held)
 
 pub join-number-spec : {M : Type 1} → statement M
 join-number-spec =

@@ -64,7 +64,13 @@ returns-4 c =
     let e = f .before .before in
     let a = e .before .before .args in
     let past : a .threshold < a .others + a .rate =
-    omega (arith, c .if4 .taken, c .before .wide3 .ensures, c .before .before .wide2 .ensures, c .before .before .before .wide .ensures) in
+    omega (
+      arith,
+      c .if4 .taken,
+      c .before .wide3 .ensures,
+      c .before .before .wide2 .ensures,
+      c .before .before .before .wide .ensures,
+    ) in
     simp (
       sym (e .before .is-type .ensures) ∙ not-false _ (e .if1 .left),
       sym (f .before .within .ensures) ∙ not-false _ (f .if2 .left),
@@ -80,7 +86,13 @@ returns-5 c =
     let e = f .before .before in
     let a = e .before .before .args in
     let fits : a .others + a .rate ≤ a .threshold =
-    omega (arith, c .if4 .left, c .before .wide3 .ensures, c .before .before .wide2 .ensures, c .before .before .before .wide .ensures) in
+    omega (
+      arith,
+      c .if4 .left,
+      c .before .wide3 .ensures,
+      c .before .before .wide2 .ensures,
+      c .before .before .before .wide .ensures,
+    ) in
     simp (
       sym (e .before .is-type .ensures) ∙ not-false _ (e .if1 .left),
       sym (f .before .within .ensures) ∙ not-false _ (f .if2 .left),

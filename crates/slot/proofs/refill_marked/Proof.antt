@@ -1,4 +1,4 @@
--- `slot::refill_all` meets its contract: its loop is the walk of Filling. The measure is the word, which falls with each
+-- `slot::refill_marked` meets its contract: its loop is the walk of Filling. The measure is the word, which falls with each
 -- mark. Assumes nothing.
 use Prim.Native.Nat.{_<_}
 use borrow.Author.Needs.{needs}
@@ -9,8 +9,8 @@ use Rattle.tables.specs.Tables.{field}
 use Rattle.slot.specs.Buckets.{Bucket, levelAfter}
 use Rattle.slot.proofs.Filling.{Filling, filling-start, filling-done, first-below, first-bucket, filling-step}
 use Rattle.slot.proofs.Filling.{rate-first}
-use Rattle.slot.proofs.refill_all.Statement.{statement}
-use Rattle.slot.proofs.refill_all.Tie as tie
+use Rattle.slot.proofs.refill_marked.Statement.{statement}
+use Rattle.slot.proofs.refill_marked.Tie as tie
 
 abbrev Inv-loop : tie.InvT-loop
 Inv-loop word clients₀ left₀ clients left = Filling word left clients₀ clients
@@ -108,8 +108,8 @@ loop-again c =
 returns : tie.Need-returns Inv-loop μ-loop
 returns c = filling-done _ _ _ _ (c .before .loop .inv) (c .loop-test .left)
 
-pub refill-all-spec : {M : Type 1} → statement M
-refill-all-spec =
+pub refill-marked-spec : {M : Type 1} → statement M
+refill-marked-spec =
     tie.close
     (tie.spec
     Inv-loop

@@ -1,0 +1,106 @@
+-- The decimal digits of a number spell it: they are digits, the first of several is not 0, and their value is the number.
+-- By induction on the fuel of `digits`: all but the last digit spell the tenth part, and the last is the remainder.
+use Prim.Native.Nat.{ℕ, zero, suc, _+_, _-_, _*_, _/_, _%_, _≤_, _<_}
+use mathlib.Core.Path.{_≡_, refl}
+use mathlib.Core.Bool.{Bool, true, false}
+use mathlib.Core.List.{List, [], _∷_, _++_}
+use native.Mathlib.Omega.{arith}
+use borrow.Author.Tests.{ltb-true, ltb-false, le-leb, ne-eqb}
+use lib.Dec.{ltb, eqb}
+use Rattle.definitions.specs.Checks.{within}
+use Rattle.grammar.specs.Numerals.{isDigit, leading, behind, isNumeral, valueFrom, digits, decimal}
+
+digit : (d : ℕ) → d < 10 → isDigit (48 + d) ≡ true
+unfolding isDigit within
+digit d h = rw (le-leb 48 (48 + d) (omega arith), le-leb (48 + d) 57 (omega arith))
+
+abbrev AllDigits : List ℕ → Type 0
+AllDigits [] = Unit {0}
+AllDigits (d ∷ ds) = (isDigit d ≡ true) × AllDigits ds
+
+-- there is a digit, and the first is not 0
+abbrev Leads : List ℕ → Type 0
+Leads [] = ⊥
+Leads (d ∷ ds) = eqb d 48 ≡ false
+
+-- what begins with no digit
+abbrev pub Bare : List ℕ → Type 0
+Bare [] = Unit {0}
+Bare (b ∷ bs) = isDigit b ≡ false
+
+all-append : (xs ys : List ℕ) → AllDigits xs → AllDigits ys → AllDigits (xs ++ ys)
+all-append [] ys a b = b
+all-append (x ∷ xs) ys a b = (a .0, all-append xs ys (a .1) b)
+
+leads-append : (xs ys : List ℕ) → Leads xs → Leads (xs ++ ys)
+leads-append [] ys h = absurd h
+leads-append (x ∷ xs) ys h = h
+
+value-append : (n : ℕ) (xs ys : List ℕ) → valueFrom n (xs ++ ys) ≡ valueFrom (valueFrom n xs) ys
+unfolding valueFrom
+value-append n [] ys = refl
+value-append n (x ∷ xs) ys = value-append (n * 10 + (x - 48)) xs ys
+
+leads-numeral : (ds : List ℕ) → Leads ds → isNumeral ds ≡ true
+unfolding isNumeral
+leads-numeral [] h = absurd h
+leads-numeral (d ∷ []) h = refl
+leads-numeral (d ∷ e ∷ ds) h = rw h
+
+-- what holds of the digits of a number, with fuel enough
+record Decimal (ds : List ℕ) (n : ℕ) : Type 0 where
+  all : AllDigits ds
+  leads : 0 < n → Leads ds
+  value : valueFrom 0 ds ≡ n
+
+one-digit : (n : ℕ) → n < 10 → Decimal ((48 + n) ∷ []) n
+unfolding valueFrom
+one-digit n k = record { all = (digit n k, tt); leads = λ p. ne-eqb (48 + n) 48 (λ q. omega arith); value = omega arith }
+
+one-more-digit : (ds : List ℕ) (n : ℕ) → 10 ≤ n → Decimal ds (n / 10) → Decimal (ds ++ ((48 + n % 10) ∷ [])) n
+unfolding valueFrom
+one-more-digit ds n k d = record {
+  all = all-append ds _ (d .all) (digit (n % 10) (omega arith), tt);
+  leads = λ p. leads-append ds _ (d .leads (omega arith));
+  value = rw (value-append, d .value) (omega arith);
+}
+
+digits-decimal : (fuel n : ℕ) → n < fuel → Decimal (digits fuel n) n
+unfolding digits
+digits-decimal zero n h = absurd (omega arith)
+digits-decimal (suc fuel) n h = go (ltb n 10) refl (λ k. digits-decimal fuel (n / 10) k)
+  where
+    go : (t : Bool) → ltb n 10 ≡ t → (n / 10 < fuel → Decimal (digits fuel (n / 10)) (n / 10)) → Decimal (digits (suc fuel) n) n
+    go true e d = rw (e, digits) (one-digit n (ltb-true n 10 e))
+    go false e d = let k = ltb-false n 10 e in rw (e, digits) (one-more-digit (digits fuel (n / 10)) n k (d (omega arith)))
+
+digits-leading : (ds rest : List ℕ) → AllDigits ds → Bare rest → leading (ds ++ rest) ≡ ds
+unfolding leading
+digits-leading [] [] a b = refl
+digits-leading [] (r ∷ rest) a b = rw b
+digits-leading (d ∷ ds) rest a b = rw (a .0, digits-leading ds rest (a .1) b)
+
+digits-behind : (ds rest : List ℕ) → AllDigits ds → Bare rest → behind (ds ++ rest) ≡ rest
+unfolding behind
+digits-behind [] [] a b = refl
+digits-behind [] (r ∷ rest) a b = rw b
+digits-behind (d ∷ ds) rest a b = rw (a .0) (digits-behind ds rest (a .1) b)
+
+-- where the digits of a number end, that they are a number, and which
+pub decimal-leading : (n : ℕ) (rest : List ℕ) → Bare rest → leading (decimal n ++ rest) ≡ decimal n
+unfolding decimal
+decimal-leading n rest b = digits-leading (decimal n) rest (digits-decimal (suc n) n (omega arith) .all) b
+
+pub decimal-behind : (n : ℕ) (rest : List ℕ) → Bare rest → behind (decimal n ++ rest) ≡ rest
+unfolding decimal
+decimal-behind n rest b = digits-behind (decimal n) rest (digits-decimal (suc n) n (omega arith) .all) b
+
+pub decimal-numeral : (n : ℕ) → isNumeral (decimal n) ≡ true
+unfolding decimal digits isNumeral
+decimal-numeral zero = refl
+decimal-numeral (suc n) =
+    leads-numeral (decimal (suc n)) (digits-decimal (suc (suc n)) (suc n) (omega arith) .leads (omega arith))
+
+pub decimal-value : (n : ℕ) → valueFrom 0 (decimal n) ≡ n
+unfolding decimal
+decimal-value n = digits-decimal (suc n) n (omega arith) .value

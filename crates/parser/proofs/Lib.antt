@@ -1,0 +1,4 @@
+pub mod Digits
+pub mod Numerals
+pub mod Walk
+pub mod Forms

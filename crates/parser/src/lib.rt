@@ -1,0 +1,314 @@
+// Reads one line of the script: any bytes, any number of them. The grammar that it reads by is `parsed` of crate grammar.
+// One matcher walks a template in which # stands for a number; a form is a template and the call that its numbers make.
+use definitions::Call;
+use definitions::Packet;
+use grammar::Line;
+ghost use mathlib.Core.Path.{_≡_};
+ghost use Prim.Native.Nat.{min};
+ghost use lib.ListN.{drop};
+ghost use Rattle.grammar.specs.Templates.{matched};
+ghost use Rattle.grammar.specs.Grammar.{rules, parsedBy, parsed};
+ghost use Rattle.parser.specs.Numbers.{byteOf, digitOf, cap, spelled, Spells};
+ghost use Rattle.parser.specs.Readings.{misfit, add, readAs, judged};
+
+// What stands where a line has no byte, and where it has no digit.
+const NO_BYTE: u64 = 256;
+
+const NO_DIGIT: u64 = 10;
+
+const LIMIT: u64 = 4294967295;
+
+const GAP: u64 = 35;
+
+// The types of a client, as a call has them.
+const PRIVATE: u32 = 2;
+
+const INDIFFERENT: u32 = 1;
+
+// A number of a line: whether it is spelled right, its value, where any above the limit is one above it, and what follows it.
+struct Numeral {
+    is: bool,
+    value: u64,
+    next: usize,
+}
+
+// What a template finds: whether the line has its shape, whether a number is too large, and the first three numbers.
+struct Reading {
+    shaped: bool,
+    large: bool,
+    count: u32,
+    a: u32,
+    b: u32,
+    c: u32,
+}
+
+fn wide(byte: u8) -> u64
+    ensures { λ r. ⌜ r ≡ byte ⌝ }
+{
+    byte as u64
+}
+
+fn byte_at(line: &[u8], at: usize) -> u64
+    ensures { λ r. ⌜ r ≡ byteOf (drop at (now (line .entry))) ⌝ }
+{
+    if line.len() <= at {
+        return NO_BYTE;
+    }
+    wide(line[at])
+}
+
+fn digit_at(line: &[u8], at: usize) -> u64
+    ensures { λ r. ⌜ r ≡ digitOf (drop at (now (line .entry))) ⌝ }
+{
+    let byte = byte_at(line, at);
+    if byte < 48 {
+        return NO_DIGIT;
+    }
+    if 57 < byte {
+        return NO_DIGIT;
+    }
+    byte - 48
+}
+
+fn capped(value: u64) -> u64
+    ensures { λ r. ⌜ r ≡ min cap value ⌝ }
+{
+    if LIMIT < value { LIMIT + 1 } else { value }
+}
+
+// Whether so many digits are a number: there is one, and the first of several is not 0.
+fn is_spelled(count: usize, first: u64) -> bool
+    ensures { λ r. ⌜ r ≡ spelled count first ⌝ }
+{
+    if count == 0 {
+        return false;
+    }
+    if count == 1 {
+        return true;
+    }
+    first != 0
+}
+
+fn read_numeral(line: &[u8], from: usize) -> Numeral
+    ensures { λ r. ⌜ Spells (drop from (now (line .entry))) (now (line .entry)) r ⌝ }
+{
+    let first = digit_at(line, from);
+    let mut digit = first;
+    let mut at = from;
+    let mut value: u64 = 0;
+    while digit < NO_DIGIT {
+        value = capped(value * 10 + digit);
+        at += 1;
+        digit = digit_at(line, at);
+    }
+    let is = is_spelled(at - from, first);
+    Numeral {
+        is,
+        value,
+        next: at,
+    }
+}
+
+fn misfits() -> Reading
+    ensures { λ r. ⌜ r ≡ misfit ⌝ }
+{
+    Reading {
+        shaped: false,
+        large: false,
+        count: 0,
+        a: 0,
+        b: 0,
+        c: 0,
+    }
+}
+
+// One number more. Beside one that is too large no number counts.
+fn with_number(reading: Reading, value: u64) -> Reading
+    ensures { λ r. ⌜ r ≡ add reading value ⌝ }
+{
+    if LIMIT < value {
+        return Reading {
+            shaped: true,
+            large: true,
+            count: 3,
+            a: 0,
+            b: 0,
+            c: 0,
+        };
+    }
+    let number = value as u32;
+    let mut next = reading;
+    if reading.count == 0 {
+        next.count = 1;
+        next.a = number;
+        return next;
+    }
+    if reading.count == 1 {
+        next.count = 2;
+        next.b = number;
+        return next;
+    }
+    if reading.count == 2 {
+        next.count = 3;
+        next.c = number;
+    }
+    next
+}
+
+fn read_as(line: &[u8], template: &[u8]) -> Reading
+    ensures { λ r. ⌜ r ≡ readAs (matched (now (template .entry)) (now (line .entry))) ⌝ }
+{
+    let mut reading = misfits();
+    reading.shaped = true;
+    let mut at = 0;
+    let mut i = 0;
+    while i < template.len() {
+        let byte = wide(template[i]);
+        if byte == GAP {
+            let number = read_numeral(line, at);
+            if !number.is {
+                return misfits();
+            }
+            at = number.next;
+            reading = with_number(reading, number.value);
+        } else {
+            if byte_at(line, at) != byte {
+                return misfits();
+            }
+            at += 1;
+        }
+        i += 1;
+    }
+    if at < line.len() {
+        return misfits();
+    }
+    reading
+}
+
+// The answer to a line of the right shape.
+fn judge(reading: Reading, call: Call) -> Line
+    ensures { λ r. ⌜ r ≡ judged reading call ⌝ }
+{
+    if reading.large {
+        Line::Refused { number: 17 }
+    } else {
+        Line::Form { call }
+    }
+}
+
+// The forms of `rules`, in their order. Each function tries the first of those that are left, and hands on to the next.
+fn parse_rest(line: &[u8]) -> Line
+    ensures { λ r. ⌜ r ≡ parsedBy (drop 5 rules) (now (line .entry)) ⌝ }
+{
+    let leave = read_as(line, b"(leave #)");
+    if leave.shaped {
+        return judge(leave, Call::Leave { id: leave.a });
+    }
+    let load = read_as(line, b"(load # #)");
+    if load.shaped {
+        return judge(
+            load,
+            Call::Load {
+                id: load.a,
+                dummies: load.b,
+            },
+        );
+    }
+    let arrive = read_as(line, b"(arrive # (packet # #))");
+    if arrive.shaped {
+        let packet = Packet {
+            handle: arrive.b,
+            length: arrive.c,
+        };
+        return judge(
+            arrive,
+            Call::Arrive {
+                id: arrive.a,
+                packet,
+            },
+        );
+    }
+    let tick = read_as(line, b"(tick)");
+    if tick.shaped {
+        return judge(tick, Call::Tick);
+    }
+    Line::Refused { number: 16 }
+}
+
+fn parse_change(line: &[u8]) -> Line
+    ensures { λ r. ⌜ r ≡ parsedBy (drop 3 rules) (now (line .entry)) ⌝ }
+{
+    let private = read_as(line, b"(change # (private #))");
+    if private.shaped {
+        return judge(
+            private,
+            Call::Change {
+                id: private.a,
+                kind: PRIVATE,
+                rate: private.b,
+                burst: 0,
+            },
+        );
+    }
+    let indifferent = read_as(line, b"(change # (indifferent # #))");
+    if indifferent.shaped {
+        return judge(
+            indifferent,
+            Call::Change {
+                id: indifferent.a,
+                kind: INDIFFERENT,
+                rate: indifferent.b,
+                burst: indifferent.c,
+            },
+        );
+    }
+    parse_rest(line)
+}
+
+fn parse_join(line: &[u8]) -> Line
+    ensures { λ r. ⌜ r ≡ parsedBy (drop 1 rules) (now (line .entry)) ⌝ }
+{
+    let private = read_as(line, b"(join # (private #))");
+    if private.shaped {
+        return judge(
+            private,
+            Call::Join {
+                id: private.a,
+                kind: PRIVATE,
+                rate: private.b,
+                burst: 0,
+            },
+        );
+    }
+    let indifferent = read_as(line, b"(join # (indifferent # #))");
+    if indifferent.shaped {
+        return judge(
+            indifferent,
+            Call::Join {
+                id: indifferent.a,
+                kind: INDIFFERENT,
+                rate: indifferent.b,
+                burst: indifferent.c,
+            },
+        );
+    }
+    parse_change(line)
+}
+
+// What a line holds: shape is judged before size (paper 01, "Script and printout").
+pub fn parse(line: &[u8]) -> Line
+    ensures { λ r. ⌜ r ≡ parsed (now (line .entry)) ⌝ }
+{
+    let open = read_as(line, b"(open # # #)");
+    if open.shaped {
+        return judge(
+            open,
+            Call::Open {
+                threshold: open.a,
+                discipline: open.b,
+                seed: open.c,
+            },
+        );
+    }
+    parse_join(line)
+}

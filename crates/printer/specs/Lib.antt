@@ -1,0 +1,3 @@
+-- What writing a text into lent bytes means, and then an answer's line.
+pub mod Appended
+pub mod Printed

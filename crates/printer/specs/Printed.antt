@@ -1,0 +1,18 @@
+-- An answer's line that is written into bytes from a place on, which takes room for a line of any answer.
+-- Where that room is not there nothing is written, so that a caller who sees to the room gets every line whole.
+use Prim.Native.Nat.{ℕ, _+_, _≤_, _<_}
+use mathlib.Core.Path.{_≡_}
+use mathlib.Core.List.{List}
+use lib.ListN.{length}
+use Rattle.definitions.specs.declared.Answer.{Answer}
+use Rattle.grammar.specs.Printout.{printed}
+use Rattle.printer.specs.Appended.{Appended}
+
+-- the room of a line
+abbrev pub line : ℕ
+line = 64
+
+pub record Printed (answer : Answer) (before : List ℕ) (at : ℕ) (after : List ℕ) (end : ℕ) : Type 0 where
+  pub written : at + line ≤ length before → Appended (printed answer) before at after end
+  pub untouched : length before < at + line → (end ≡ at) × (after ≡ before)
+  pub short : end ≤ at + line
