@@ -36,6 +36,7 @@ static const sequence sequences[] = {
     {"8 private, depth 32", 8, 0, 0, 32, MODE_SLOTS},
     {"8 indifferent, discipline 0, depth 32", 0, 8, 0, 32, MODE_SLOTS},
     {"8 indifferent, discipline 1, depth 32", 0, 8, 1, 32, MODE_SLOTS},
+    {"8 indifferent, discipline 1, depth 8", 0, 8, 1, 8, MODE_SLOTS},
     {"only refused calls", 8, 0, 0, 1, MODE_REFUSED},
 };
 enum { SEQUENCES = sizeof sequences / sizeof sequences[0] };

@@ -16,8 +16,10 @@ const NO_BYTE: u64 = 256;
 
 const NO_DIGIT: u64 = 10;
 
+// The largest number that a form may have; one above it stands for any that is larger.
 const LIMIT: u64 = 4294967295;
 
+// The byte # of a template.
 const GAP: u64 = 35;
 
 // The types of a client, as a call has them.
@@ -89,6 +91,7 @@ fn is_spelled(count: usize, first: u64) -> bool
     first != 0
 }
 
+// The number that starts at a place, however many digits it has.
 fn read_numeral(line: &[u8], from: usize) -> Numeral
     ensures { λ r. ⌜ Spells (drop from (now (line .entry))) (now (line .entry)) r ⌝ }
 {
@@ -109,6 +112,7 @@ fn read_numeral(line: &[u8], from: usize) -> Numeral
     }
 }
 
+// What a template finds in a line of another shape.
 fn misfits() -> Reading
     ensures { λ r. ⌜ r ≡ misfit ⌝ }
 {
@@ -155,6 +159,7 @@ fn with_number(reading: Reading, value: u64) -> Reading
     next
 }
 
+// What a template finds in a line: one walk over the template, with a place in the line.
 fn read_as(line: &[u8], template: &[u8]) -> Reading
     ensures { λ r. ⌜ r ≡ readAs (matched (now (template .entry)) (now (line .entry))) ⌝ }
 {

@@ -1,0 +1,4 @@
+pub mod Ends
+pub mod Steps
+pub mod Walks
+pub mod Wholes

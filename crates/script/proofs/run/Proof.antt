@@ -1,0 +1,60 @@
+-- `script::run` meets its contract: it prints what a run gives. Assumes nothing.
+use native.Mathlib.Omega.{arith}
+use mathlib.Core.Path.{_∙_}
+use Rattle.script.proofs.Wholes.{given-bare, given-long, given-lines, begin}
+use borrow.Author.Needs.{needs}
+use Rattle.script.proofs.run.Statement.{statement}
+use Rattle.script.proofs.run.Tie as tie
+use Rattle.script.proofs.run.Reads as reads
+use Rattle.script.proofs.run.Lts as lts
+use Rattle.opening.proofs.unopened.Reads as unopened-reads
+use Rattle.printer.proofs.print.Reads as print-reads
+use Rattle.script.proofs.lines.Reads as lines-reads
+
+-- src/lib.rt:236:9
+returns : tie.Need-returns
+returns c = let start = c .before .before .before .args in given-bare (start .text .now) (start .out .now) (omega arith)
+
+-- src/lib.rt:239:9
+print-requires : tie.Need-print-requires
+print-requires c κs = search needs
+
+-- src/lib.rt:239:9
+same-length : tie.Need-same-length
+same-length c = search needs
+
+-- src/lib.rt:239:9
+returns-2 : tie.Need-returns-2
+returns-2 c = given-long _ _ (omega arith) _ _ (omega arith) (c .before .before .print .ensures)
+
+-- src/lib.rt:245:9
+unopened-requires : tie.Need-unopened-requires
+unopened-requires c κs = search needs
+
+-- src/lib.rt:246:5
+lines-requires : tie.Need-lines-requires
+lines-requires c κs = begin _ _ (omega arith) (omega arith) _ _ (c .before .before .before .before .before .unopened .ensures _)
+
+-- src/lib.rt:232:1
+same-length-2 : tie.Need-same-length-2
+same-length-2 c = search needs
+
+-- src/lib.rt:232:1
+returns-3 : tie.Need-returns-3
+returns-3 c =
+    let start = c .before .before .before .before .before .before .before .before .before .before .before .before .before .args in
+    let done = c .before .before .lines .ensures in
+    (done .0, done .1 ∙ given-lines (start .text .now) (start .out .now) (omega arith) (omega arith))
+
+pub run-spec : {M : Type 1} → statement M
+run-spec =
+    tie.close
+    (tie.spec
+    returns
+    print-requires
+    same-length
+    returns-2
+    unopened-requires
+    lines-requires
+    same-length-2
+    returns-3)

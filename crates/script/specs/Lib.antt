@@ -1,0 +1,2 @@
+-- What the walk over a script keeps.
+pub mod Walk

@@ -1,0 +1,9 @@
+-- Room for any printout. The definition stays shut where an array of that many bytes is compared, so that they are not counted
+-- out one by one.
+use Prim.Native.Nat.{ℕ}
+use mathlib.Core.Path.{_≡_}
+use mathlib.Core.List.{List}
+use lib.ListN.{length}
+
+unfoldable pub Room : List ℕ → Type 0
+Room bytes = 780064 ≡ length bytes
