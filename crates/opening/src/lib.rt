@@ -45,7 +45,7 @@ fn control_of(opened: bool, threshold: u32, discipline: u32, seed: u32) -> Contr
         opened,
         threshold,
         discipline,
-        generator: Generator { value: seed },
+        generator: Generator::new(seed),
         rates: 0,
         indifferent: 0,
         private: 0,
