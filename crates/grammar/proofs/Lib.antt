@@ -5,3 +5,4 @@ pub mod Filling
 pub mod RoundTrip
 pub mod Lines
 pub mod Rooms
+pub mod Sheets

@@ -4,3 +4,4 @@ pub mod Numerals
 pub mod Templates
 pub mod Grammar
 pub mod Printout
+pub mod Sheet
