@@ -26,22 +26,6 @@ fn join(links: &mut [u32; LINKS], a: u32, b: u32)
     links[NODES + b as usize] = a;
 }
 
-// A table that holds the empty order.
-pub fn new_links() -> [u32; LINKS]
-    ensures { λ r. ⌜ Sound r × Ordered r [] ⌝ }
-{
-    [END; LINKS]
-}
-
-// The empty order, whatever the table held before.
-pub fn clear(links: &mut [u32; LINKS])
-    requires { ⌜ Sound (now links) ⌝ }
-    ensures { λ r. ⌜ Sound (now (links .exit)) ⌝ }
-    ensures { λ r. ⌜ Ordered (now (links .exit)) [] ⌝ }
-{
-    join(links, END, END);
-}
-
 // A new place is the last one. A number that is no place takes part by its remainder.
 pub fn push(links: &mut [u32; LINKS], place: u32)
     requires { ⌜ Sound (now links) ⌝ }
