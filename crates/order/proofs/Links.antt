@@ -95,14 +95,6 @@ sentinel-absent : (xs : List ℕ) → Places xs → Absent sentinel xs
 sentinel-absent = all-map (λ p. p < sentinel) (λ p. sentinel ≢ p) (λ p lt. omega arith)
 
 module _ (links : List ℕ) (len : length links ≡ linkCount) where
-  -- a circle of the sentinel alone, whatever the table held
-  pub ordered-clear : Ordered (joined links sentinel sentinel) []
-  ordered-clear = record {
-    linked = joined-new links len sentinel sentinel (omega arith) (omega arith);
-    within = tt;
-    distinct = tt;
-  }
-
   -- the way from the sentinel to node v leads to node w instead
   sentinel-redirect : (xs : List ℕ) (v w : ℕ)
       → w ≤ sentinel
