@@ -82,8 +82,10 @@ depth_of() {
         END {
             for (i = 1; i <= NR; i++) {
                 deep = shallow = order[i]
-                if (!sub(/, depth 32$/, "", shallow)) continue
-                printf "| %s | %s | %.2f | %.2f |\n", shallow, what,
+                if (!sub(/, depth 32$/, ", depth 1", shallow)) continue
+                name = deep
+                sub(/, depth 32$/, "", name)
+                printf "| %s | %s | %.2f | %.2f |\n", name, what,
                     proved[deep] / proved[shallow], plain[deep] / plain[shallow]
             }
         }' "$1"

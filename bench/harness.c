@@ -33,10 +33,13 @@ static const sequence sequences[] = {
     {"64 indifferent, discipline 1", 0, 64, 1, 1, MODE_SLOTS},
     {"8 private + 8 indifferent, discipline 0", 8, 8, 0, 1, MODE_SLOTS},
     {"8 private + 8 indifferent, discipline 1", 8, 8, 1, 1, MODE_SLOTS},
+    /* Each queue has 1 packet before the first arrival, or 31. */
+    {"8 private, depth 1", 8, 0, 0, 2, MODE_SLOTS},
     {"8 private, depth 32", 8, 0, 0, 32, MODE_SLOTS},
+    {"8 indifferent, discipline 0, depth 1", 0, 8, 0, 2, MODE_SLOTS},
     {"8 indifferent, discipline 0, depth 32", 0, 8, 0, 32, MODE_SLOTS},
+    {"8 indifferent, discipline 1, depth 1", 0, 8, 1, 2, MODE_SLOTS},
     {"8 indifferent, discipline 1, depth 32", 0, 8, 1, 32, MODE_SLOTS},
-    {"8 indifferent, discipline 1, depth 8", 0, 8, 1, 8, MODE_SLOTS},
     {"only refused calls", 8, 0, 0, 1, MODE_REFUSED},
 };
 enum { SEQUENCES = sizeof sequences / sizeof sequences[0] };
