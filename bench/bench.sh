@@ -1,19 +1,21 @@
 #!/bin/bash
-# Benchmarks the proved slot core (libbench.a) against the plain one, in time and instructions.
-#   bench.sh [--stub] [--lto] [FOLDER]
+# Benchmarks the proved slot core (libbench.a) and the program slots against the plain ones, in time and instructions.
+#   bench.sh [--stub] [--lto] [--scripts] [FOLDER]
 # Run it in the repository's root. Everything is built into FOLDER (default: target/bench).
-#   --stub  links stub.c in place of libbench.a, to try the benchmark itself
-#   --lto   lets gcc inline the plain core into its sequence (a stricter yardstick)
+#   --stub     links stub.c in place of libbench.a, to try the benchmark itself; no scripts
+#   --scripts  only the scripts
+#   --lto      lets gcc inline the plain core into its sequence (a stricter yardstick)
 set -euo pipefail
 shopt -s inherit_errexit
 
 here=$(cd "$(dirname "$0")" && pwd)
-out=target/bench stub= lto=
+out=target/bench stub= lto= only_scripts=
 for word in "$@"; do
     case $word in
     --stub) stub=1 ;;
     --lto) lto=-flto ;;
-    -*) echo "usage: bench.sh [--stub] [--lto] [FOLDER]" >&2; exit 2 ;;
+    --scripts) only_scripts=1 ;;
+    -*) echo "usage: bench.sh [--stub] [--lto] [--scripts] [FOLDER]" >&2; exit 2 ;;
     *) out=$word ;;
     esac
 done
@@ -91,16 +93,65 @@ depth_of() {
         }' "$1"
 }
 
-find_proved
-build
-"$out/selfcheck" >&2
-"$out/harness" time >"$out/time.md" # stops here if the sums differ
-echo "Time:"; echo; cat "$out/time.md"; echo
-echo "Instructions:"; echo; count_all | tee "$out/instructions.md"; echo
-echo "Depth 32 over depth 1:"; echo
-{
-    echo "| sequence | of | proved | plain |"
-    echo "|---|---|---:|---:|"
-    depth_of "$out/time.md" time
-    depth_of "$out/instructions.md" instructions
-} | tee "$out/depth.md"
+# script NAME: 60,000 bytes, the last line cut off
+script() {
+    case $1 in
+    calls) # 8 private and 8 indifferent clients; an arrival, a tick, and so on
+        awk 'BEGIN {
+            print "(open 1024 0 1)"
+            for (i = 0; i < 8; i++) print "(join " i " (private 64))\n(join " i + 8 " (indifferent 64 64))"
+            for (k = 1; k < 2000; k++)
+                print "(arrive " k * 7 % 16 " (packet " k * 1000003 % 4294967296 " " 64 + k * 37 % 1455 "))\n(tick)"
+        }' ;;
+    ticks) # one private client with dummies
+        echo "(open 1024 0 1)"; echo "(join 0 (private 1))"; echo "(load 0 255)"
+        awk 'BEGIN { for (k = 0; k < 9000; k++) print "(tick)" }' ;;
+    "line feeds") awk 'BEGIN { for (k = 0; k < 60000; k++) print "" }' ;;
+    esac | head -c 60000
+}
+
+# program_instructions PROGRAM SCRIPT. memset is told to go by stores, since callgrind counts each byte of a `rep stosb`.
+program_instructions() {
+    GLIBC_TUNABLES=glibc.cpu.x86_rep_stosb_threshold=100000000 \
+        valgrind --tool=callgrind --callgrind-out-file="$temporary/callgrind" "$1" <"$2" >/dev/null 2>"$temporary/valgrind"
+    awk '$1 == "totals:" { print $2 }' "$temporary/callgrind"
+}
+
+scripts() {
+    rt check slots >"$temporary/check" 2>&1 || { cat "$temporary/check" >&2; exit 1; }
+    gcc $flags "$here"/{plain_slots,plain}.c -o "$out/plain_slots"
+    gcc $flags "$here/programs.c" -o "$out/programs"
+    echo "| 60,000 bytes of | slots µs | plain µs | ratio | slots instructions | plain instructions | ratio |"
+    echo "|---|---:|---:|---:|---:|---:|---:|"
+    local name text=$temporary/script
+    for name in calls ticks "line feeds"; do
+        script "$name" >"$text" || true # head stops reading before the end
+        target/bin/slots <"$text" >"$temporary/proved"
+        "$out/plain_slots" <"$text" >"$temporary/plain"
+        cmp "$temporary/proved" "$temporary/plain"
+        echo "$name|$("$out/programs" target/bin/slots "$out/plain_slots" "$text" 500)|$(
+            program_instructions target/bin/slots "$text")|$(program_instructions "$out/plain_slots" "$text")"
+    done | awk -F '[| ]' '{ n = NF
+        name = $1; for (i = 2; i <= n - 6; i++) name = name " " $i
+        printf "| %s | %d | %d | %.2f | %d | %d | %.2f |\n", name, $(n - 5), $(n - 3), $(n - 5) / $(n - 3), $(n - 1), $n, $(n - 1) / $n }'
+}
+
+if [ -z "$only_scripts" ]; then
+    find_proved
+    build
+    "$out/selfcheck" >&2
+    "$out/harness" time >"$out/time.md" # stops here if the sums differ
+    echo "Time:"; echo; cat "$out/time.md"; echo
+    echo "Instructions:"; echo; count_all | tee "$out/instructions.md"; echo
+    echo "Depth 32 over depth 1:"; echo
+    {
+        echo "| sequence | of | proved | plain |"
+        echo "|---|---|---:|---:|"
+        depth_of "$out/time.md" time
+        depth_of "$out/instructions.md" instructions
+    } | tee "$out/depth.md"
+fi
+if [ -z "$stub" ]; then
+    echo; echo "Scripts, from the start of the program to its end:"; echo
+    scripts | tee "$out/scripts.md"
+fi

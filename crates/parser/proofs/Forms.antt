@@ -3,18 +3,22 @@
 use Prim.Native.Nat.{ℕ}
 use Prim.Native.String.{String}
 use mathlib.Core.Path.{_≡_, refl, sym, _∙_, ap}
-use mathlib.Core.Bool.{Bool, true, false, cond, _&&_, true≢false, and-eq-true-iff}
-use mathlib.Core.List.{List, [], _∷_}
+use mathlib.Core.Bool.{Bool, true, false, cond, not, _&&_, true≢false, and-eq-true-iff}
+use mathlib.Core.List.{List, [], _∷_, _++_, append-nil}
 use mathlib.Core.Option.{Option, none, some}
+use borrow.Author.Tests.{eqb-false, not-true}
 use lib.Dec.{leb, eqb}
+use lib.ListN.{drop}
 use Rattle.definitions.specs.declared.Call.{Call}
 use Rattle.grammar.specs.declared.Line.{Line}
 use Rattle.grammar.specs.declared.Line.the-variants.{Form, Refused}
 use Rattle.grammar.specs.Bytes.{bytes, numberLimit}
-use Rattle.grammar.specs.Templates.{matched}
+use Rattle.grammar.specs.Templates.{gap, matched}
 use Rattle.grammar.specs.Grammar.{Rule, nth, rule, numbersFit, sized, orElse, parsedBy}
 use Rattle.parser.specs.declared.Reading.{Reading}
+use Rattle.parser.specs.Numbers.{byteOf}
 use Rattle.parser.specs.Readings.{empty, placed, add, collected, readFrom, readAs, judged}
+use Rattle.parser.proofs.Walk.{second-misfits}
 
 -- a number more changes neither the shape nor, where it fits, the size
 placed-same : (r : Reading) (n : ℕ) → (placed r n .shaped ≡ r .shaped) × (placed r n .large ≡ r .large)
@@ -115,3 +119,53 @@ rule-off r rs line {reading} e shape = go (matched (bytes (r .template)) line) e
     go none q = refl
     go (some ns) q =
         absurd (true≢false (sym (collected-same empty ns refl .0) ∙ sym (ap (λ (x : Reading). x .shaped) q) ∙ shape))
+
+-- where no form is left, the line is none
+pub no-rule : (line : List ℕ) → parsedBy [] line ≡ Refused 16
+unfolding parsedBy
+no-rule line = refl
+
+-- whether a template has no number in its first two places, and another second byte
+unfoldable pub unlike : ℕ → List ℕ → Bool
+unlike letter [] = false
+unlike letter (b ∷ []) = false
+unlike letter (b ∷ c ∷ cs) = not (eqb b gap) && (not (eqb c gap) && not (eqb letter c))
+
+unfoldable pub allUnlike : ℕ → List Rule → Bool
+allUnlike letter [] = true
+allUnlike letter (r ∷ rs) = unlike letter (bytes (r .template)) && allUnlike letter rs
+
+module _ (line : List ℕ) {letter : ℕ} (second : letter ≡ byteOf (drop 1 line)) where
+  unlike-misfits : (template : List ℕ) → unlike letter template ≡ true → matched template line ≡ none
+  unfolding unlike
+  unlike-misfits [] e = absurd (true≢false (sym e))
+  unlike-misfits (b ∷ []) e = absurd (true≢false (sym e))
+  unlike-misfits (b ∷ c ∷ cs) e =
+      let first = and-eq-true-iff (not (eqb b gap)) _ .0 e in
+      let rest = and-eq-true-iff (not (eqb c gap)) _ .0 (first .1) in
+      second-misfits b c cs line (eqb-false b gap (not-true _ (first .0))) (eqb-false c gap (not-true _ (rest .0)))
+      (λ q. eqb-false letter c (not-true _ (rest .1)) (second ∙ q))
+
+  -- forms that are all unlike the line are passed over
+  unlike-pass : (rs rest : List Rule) → allUnlike letter rs ≡ true → parsedBy (rs ++ rest) line ≡ parsedBy rest line
+  unfolding parsedBy allUnlike
+  unlike-pass [] rest e = refl
+  unlike-pass (r ∷ rs) rest e =
+      let both = and-eq-true-iff (unlike letter (bytes (r .template))) _ .0 e in
+      rw (unlike-misfits (bytes (r .template)) (both .0)) (unlike-pass rs rest (both .1))
+
+  -- what stands behind the forms that are tried does not matter where it gives 16
+  behind-none : (rs after : List Rule) → parsedBy after line ≡ Refused 16 → parsedBy (rs ++ after) line ≡ parsedBy rs line
+  unfolding parsedBy
+  behind-none [] after e = e
+  behind-none (r ∷ rs) after e =
+      ap (orElse (r .call) (matched (bytes (r .template)) line)) (behind-none rs after e)
+
+  pub all-refused : (rs : List Rule) → allUnlike letter rs ≡ true → parsedBy rs line ≡ Refused 16
+  all-refused rs e = ap (λ (l : List Rule). parsedBy l line) (sym (append-nil rs)) ∙ unlike-pass rs [] e ∙ no-rule line
+
+  -- only the forms that are not unlike the line have to be tried
+  pub among : (before tried after : List Rule) → allUnlike letter before ≡ true → allUnlike letter after ≡ true
+      → parsedBy (before ++ (tried ++ after)) line ≡ parsedBy tried line
+  among before tried after e f =
+      unlike-pass before (tried ++ after) e ∙ behind-none tried after (all-refused after f)

@@ -8,7 +8,7 @@ use mathlib.Core.Option.{Option, none, some}
 use native.Mathlib.Numerals.{add-one}
 use native.Mathlib.Omega.{arith}
 use borrow.Author.Tests.{leb-true, leb-false, lt-leb, eq-eqb, ne-eqb}
-use lib.Dec.{leb}
+use lib.Dec.{leb, eqb}
 use lib.ListN.{length, drop, getD, drop-of-length-le}
 use lib.Seq.{drop-nil, drop-cons, drop-drop}
 use Rattle.grammar.specs.Bytes.{numberLimit}
@@ -44,6 +44,17 @@ module _ (b : ℕ) (bs : List ℕ) (fixed : b ≡ gap → ⊥) where
   unfolding matched byteOf
   first-misfits [] e = refl
   first-misfits (x ∷ xs) e = byte-misfits b bs x xs (ne-eqb b gap fixed) (ne-eqb b x (λ q. e (sym q)))
+
+-- a line whose second byte is not that of a template has another shape
+pub second-misfits : (b c : ℕ) (cs line : List ℕ) → (b ≡ gap → ⊥) → (c ≡ gap → ⊥) → (byteOf (drop 1 line) ≡ c → ⊥)
+    → matched (b ∷ c ∷ cs) line ≡ none
+unfolding matched
+second-misfits b c cs [] first second h = refl
+second-misfits b c cs (x ∷ xs) first second h = go (eqb b x) refl
+  where
+    go : (t : Bool) → eqb b x ≡ t → matched (b ∷ c ∷ cs) (x ∷ xs) ≡ none
+    go true e = byte-fits b (c ∷ cs) x xs (ne-eqb b gap first) e ∙ first-misfits c cs second xs h
+    go false e = byte-misfits b (c ∷ cs) x xs (ne-eqb b gap first) e
 
 byte-there : (line : List ℕ) (at : ℕ) → byteOf (drop at line) < 256 → at < length line
 unfolding byteOf

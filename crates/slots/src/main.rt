@@ -11,11 +11,18 @@ fn out_room() -> [u8; OUT_ROOM]
     [0; OUT_ROOM]
 }
 
-// The room for the text is more than the longest that is read, so that a longer one is seen to be longer.
+// The room for the text is more than the longest that is read, so that a longer one is seen to be longer. A program has no exit
+// status of its own to give; what cannot be read or written is told on standard error.
 fn main() {
     let mut text = io::large_buffer();
     let mut out = out_room();
     let length = io::read_full(STDIN_FILENO, &mut text);
+    if os::errno() != 0 {
+        os::fail(b"slots: standard input");
+        return;
+    }
     let printed = script::run(&text[..length], &mut out);
-    io::write_all(STDOUT_FILENO, &out[..printed]);
+    if !io::write_all(STDOUT_FILENO, &out[..printed]) {
+        os::fail(b"slots: standard output");
+    }
 }

@@ -1,44 +1,95 @@
--- `parser::parse` meets its contract: where the first form does not fit the line, the later ones decide.
--- Assumes nothing.
-use mathlib.Core.Path.{sym, _∙_}
-use borrow.Author.Needs.{needs}
-use lib.ListN.{drop}
-use Rattle.definitions.specs.declared.Call.the-variants.{Open}
+-- `parser::parse` meets its contract: of the forms only those with the line's second byte have to be tried. Assumes nothing.
+use mathlib.Core.Path.{refl, sym, _∙_}
+use mathlib.Core.List.{[]}
+use lib.ListN.{drop, take}
+use borrow.Author.Tests.{ne-eqb}
 use Rattle.grammar.specs.Grammar.{rules, parsed}
-use Rattle.parser.proofs.Forms.{rule-fits, rule-off}
+use Rattle.parser.proofs.Forms.{unlike, allUnlike, among, all-refused}
+use borrow.Author.Needs.{needs}
 use Rattle.parser.proofs.parse.Statement.{statement}
 use Rattle.parser.proofs.parse.Tie as tie
 
-slice-aggregate-read-as : tie.Need-slice-aggregate-read-as
-slice-aggregate-read-as c = search needs
+byte-at-requires : tie.Need-byte-at-requires
+byte-at-requires c κs = search needs
 
-read-as-requires : tie.Need-read-as-requires
-read-as-requires c κs = search needs
-
-judge-requires : tie.Need-judge-requires
-judge-requires c κs = search needs
-
-returns : tie.Need-returns
-unfolding rules parsed
-returns c =
-    rule-fits (λ threshold discipline seed. Open threshold discipline seed) "(open # # #)" (drop 1 rules) _
-    (c .before .before .read-as .ensures) (c .before .if1 .taken) (c .judge .ensures)
+parse-open-requires : tie.Need-parse-open-requires
+parse-open-requires c κs = search needs
 
 parse-join-requires : tie.Need-parse-join-requires
 parse-join-requires c κs = search needs
 
+parse-change-requires : tie.Need-parse-change-requires
+parse-change-requires c κs = search needs
+
+parse-leave-or-load-requires : tie.Need-parse-leave-or-load-requires
+parse-leave-or-load-requires c κs = search needs
+
+parse-arrive-requires : tie.Need-parse-arrive-requires
+parse-arrive-requires c κs = search needs
+
+parse-tick-requires : tie.Need-parse-tick-requires
+parse-tick-requires c κs = search needs
+
+returns : tie.Need-returns
+unfolding rules parsed allUnlike unlike
+returns c =
+    c .parse-open .ensures ∙ sym (among _ (sym (c .before .match .keys1) ∙ c .before .before .byte-at .ensures) [] (take 1 rules) (drop 1 rules) refl refl)
+
 returns-2 : tie.Need-returns-2
-unfolding rules parsed
+unfolding rules parsed allUnlike unlike
 returns-2 c =
-    c .parse-join .ensures ∙ sym (rule-off _ (drop 1 rules) _ (c .before .before .read-as .ensures) (c .before .if1 .left))
+    c .parse-join .ensures ∙ sym (among _ (sym (c .before .match .keys2) ∙ c .before .before .byte-at .ensures) (take 1 rules) (take 2 (drop 1 rules)) (drop 3 rules) refl refl)
+
+returns-3 : tie.Need-returns-3
+unfolding rules parsed allUnlike unlike
+returns-3 c =
+    c .parse-change .ensures ∙ sym (among _ (sym (c .before .match .keys3) ∙ c .before .before .byte-at .ensures) (take 3 rules) (take 2 (drop 3 rules)) (drop 5 rules) refl refl)
+
+returns-4 : tie.Need-returns-4
+unfolding rules parsed allUnlike unlike
+returns-4 c =
+    c .parse-leave-or-load .ensures ∙ sym (among _ (sym (c .before .match .keys4) ∙ c .before .before .byte-at .ensures) (take 5 rules) (take 2 (drop 5 rules)) (drop 7 rules) refl refl)
+
+returns-5 : tie.Need-returns-5
+unfolding rules parsed allUnlike unlike
+returns-5 c =
+    c .parse-arrive .ensures ∙ sym (among _ (sym (c .before .match .keys5) ∙ c .before .before .byte-at .ensures) (take 7 rules) (take 1 (drop 7 rules)) (drop 8 rules) refl refl)
+
+returns-6 : tie.Need-returns-6
+unfolding rules parsed allUnlike unlike
+returns-6 c =
+    c .parse-tick .ensures ∙ sym (among _ (sym (c .before .match .keys6) ∙ c .before .before .byte-at .ensures) (take 8 rules) (drop 8 rules) [] refl refl)
+
+returns-7 : tie.Need-returns-7
+unfolding rules parsed allUnlike unlike
+returns-7 c =
+    let not = c .match .rest in
+    let x = c .before .byte-at .result in
+    sym (all-refused _ (c .before .byte-at .ensures) rules
+    (rw (
+      ne-eqb x 111 (not .0 .0 .0 .0 .0 .1),
+      ne-eqb x 106 (not .0 .0 .0 .0 .1),
+      ne-eqb x 99 (not .0 .0 .0 .1),
+      ne-eqb x 108 (not .0 .0 .1),
+      ne-eqb x 97 (not .0 .1),
+      ne-eqb x 116 (not .1),
+    )))
 
 pub parse-spec : {M : Type 1} → statement M
 parse-spec =
     tie.close
     (tie.spec
-    slice-aggregate-read-as
-    read-as-requires
-    judge-requires
-    returns
+    byte-at-requires
+    parse-open-requires
     parse-join-requires
-    returns-2)
+    parse-change-requires
+    parse-leave-or-load-requires
+    parse-arrive-requires
+    parse-tick-requires
+    returns
+    returns-2
+    returns-3
+    returns-4
+    returns-5
+    returns-6
+    returns-7)

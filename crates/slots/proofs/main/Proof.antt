@@ -10,6 +10,8 @@ use Rattle.slots.proofs.main.Lts as lts
 use Rattle.io.proofs.large_buffer.Reads as large-buffer-reads
 use Rattle.io.proofs.read_full.Reads as read-full-reads
 use Rattle.io.proofs.write_all.Reads as write-all-reads
+use Rattle.os.proofs.errno.Reads as errno-reads
+use Rattle.os.proofs.fail.Reads as fail-reads
 use Rattle.script.proofs.run.Reads as run-reads
 use Rattle.slots.proofs.out_room.Reads as out-room-reads
 
@@ -24,6 +26,18 @@ slice-aggregate-read-full c = search needs
 
 read-full-requires : tie.Need-read-full-requires
 read-full-requires c κs = search needs
+
+errno-requires : tie.Need-errno-requires
+errno-requires c κs = search needs
+
+slice-aggregate-fail : tie.Need-slice-aggregate-fail
+slice-aggregate-fail c = search needs
+
+fail-requires : tie.Need-fail-requires
+fail-requires c κs = search needs
+
+returns : tie.Need-returns
+returns c = search needs
 
 array-share-prefix-text : tie.Need-array-share-prefix-text
 array-share-prefix-text c = search needs
@@ -47,8 +61,17 @@ slice-aggregate-write-all c =
 write-all-requires : tie.Need-write-all-requires
 write-all-requires c κs = search needs
 
-returns : tie.Need-returns
-returns c = search needs
+slice-aggregate-fail-2 : tie.Need-slice-aggregate-fail-2
+slice-aggregate-fail-2 c = search needs
+
+fail-requires-2 : tie.Need-fail-requires-2
+fail-requires-2 c κs = search needs
+
+returns-2 : tie.Need-returns-2
+returns-2 c = search needs
+
+returns-3 : tie.Need-returns-3
+returns-3 c = search needs
 
 pub main-spec : {M : Type 1} → statement M
 main-spec =
@@ -58,6 +81,10 @@ main-spec =
     out-room-requires
     slice-aggregate-read-full
     read-full-requires
+    errno-requires
+    slice-aggregate-fail
+    fail-requires
+    returns
     array-share-prefix-text
     slice-aggregate-run
     slice-aggregate-run-2
@@ -65,4 +92,7 @@ main-spec =
     array-share-prefix-out
     slice-aggregate-write-all
     write-all-requires
-    returns)
+    slice-aggregate-fail-2
+    fail-requires-2
+    returns-2
+    returns-3)
