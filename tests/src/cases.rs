@@ -24,7 +24,8 @@ fn main() {
 
 /// Both programs print what is expected.
 fn holds(slots: &str, case: &Case) -> bool {
-    let first = agrees("slots", &program::printout(slots, &case.text), case);
+    let run = program::run(slots, &case.text);
+    let first = run.ended_well && agrees("slots", &run.printout, case);
     let second = agrees("second", &second::script::run(&case.text), case);
     if first && second {
         let lines = case.expected.iter().filter(|&&byte| byte == b'\n').count();

@@ -1,27 +1,46 @@
-//! A program that reads a script from standard input and writes its printout.
+//! Runs the program under test as a process of its own.
 
-use std::io::{ErrorKind, Read, Write};
+use std::io::Write;
 use std::process::{Command, Stdio};
 
-/// What the program prints for a text. The text is written from a thread of its own, so that neither side waits for the other; a
-/// program may stop reading early, as one does at a text that is too long.
-pub fn printout(program: &str, text: &[u8]) -> Vec<u8> {
+/// What a run gave: all it printed, and whether it ended well.
+#[derive(Clone, PartialEq, Eq)]
+pub struct Run {
+    pub printout: Vec<u8>,
+    pub ended_well: bool,
+}
+
+/// One run. The text is written by a thread of its own: a program that prints before it has read
+/// everything would otherwise wait for us while we wait for it.
+pub fn run(program: &str, text: &[u8]) -> Run {
     let mut child = Command::new(program)
         .stdin(Stdio::piped())
         .stdout(Stdio::piped())
         .spawn()
-        .unwrap_or_else(|error| panic!("{program}: {error}"));
-    let mut stdin = child.stdin.take().expect("its standard input");
-    let mut stdout = child.stdout.take().expect("its standard output");
-    let mut printed = Vec::new();
-    std::thread::scope(|scope| {
-        scope.spawn(move || match stdin.write_all(text) {
-            Err(error) if error.kind() != ErrorKind::BrokenPipe => panic!("writing the script: {error}"),
-            _ => (),
-        });
-        stdout.read_to_end(&mut printed).expect("reading the printout");
+        .unwrap_or_else(|error| panic!("cannot start {}: {}", program, error));
+    let mut input = child.stdin.take().expect("the input is piped");
+    let text = text.to_vec();
+    let writer = std::thread::spawn(move || {
+        // A program that stops reading early (a text too long) is not at fault for that.
+        let _ = input.write_all(&text);
     });
-    let status = child.wait().expect("its end");
-    assert!(status.success(), "{program} ended with {status}");
-    printed
+    let output = child.wait_with_output().expect("the program can be waited for");
+    writer.join().expect("the writer ends");
+    Run { printout: output.stdout, ended_well: output.status.success() }
+}
+
+/// Bytes for the eye, cut after `LONGEST_SHOWN` lines: one line each, odd bytes escaped.
+pub fn shown(bytes: &[u8]) -> String {
+    const LONGEST_SHOWN: usize = 200;
+    let mut text = String::new();
+    let lines: Vec<&[u8]> = bytes.split_inclusive(|&byte| byte == b'\n').collect();
+    for line in lines.iter().take(LONGEST_SHOWN) {
+        let body = line.strip_suffix(b"\n");
+        text.push_str(&body.unwrap_or(line).escape_ascii().to_string());
+        text.push_str(if body.is_some() { "\n" } else { " [no line feed]\n" });
+    }
+    if lines.len() > LONGEST_SHOWN {
+        text.push_str(&format!("... {} lines in all\n", lines.len()));
+    }
+    text
 }

@@ -1,0 +1,340 @@
+//! The printed example, P1 to P12, every number of the table, and the grammar of the script.
+//! Expected values are the paper's own.
+
+use crate::core::{xorshift32, Answer, Call, Core, Opened, INDIFFERENT, PRIVATE};
+use crate::script::{parse, run, Line};
+
+fn printed(text: &str) -> String {
+    String::from_utf8(run(text.as_bytes())).unwrap()
+}
+
+/// The last line printed, without its line feed.
+fn last(text: &str) -> String {
+    printed(text).lines().last().unwrap().to_string()
+}
+
+fn open(core: &mut Core, threshold: u32, discipline: u32, seed: u32) {
+    let call = Call::Open { threshold, discipline, seed };
+    assert_eq!(core.perform(&call), Answer::Accepted);
+}
+
+fn join(core: &mut Core, id: u32, kind: u32, rate: u32, burst: u32) -> Answer {
+    core.perform(&Call::Join { id, kind, rate, burst })
+}
+
+fn change(core: &mut Core, id: u32, kind: u32, rate: u32, burst: u32) -> Answer {
+    core.perform(&Call::Change { id, kind, rate, burst })
+}
+
+fn arrive(core: &mut Core, id: u32, handle: u32, length: u32) -> Answer {
+    core.perform(&Call::Arrive { id, handle, length })
+}
+
+fn load(core: &mut Core, id: u32, count: u32) -> Answer {
+    core.perform(&Call::Load { id, count })
+}
+
+fn opened(core: &Core) -> &Opened {
+    core.opened.as_ref().unwrap()
+}
+
+fn level(core: &Core, id: usize) -> u32 {
+    opened(core).clients[id].as_ref().unwrap().level
+}
+
+const EXAMPLE: &str = "(open 1024 0 1)
+(join 2 (private 300))
+(join 5 (private 100))
+(join 3 (indifferent 200 1))
+(load 2 1)
+(arrive 2 (packet 17 64))
+(arrive 3 (packet 90 1518))
+(arrive 3 (packet 91 64))
+(tick)
+(tick)
+(tick)
+(tick)
+(arrive 5 (packet 40 63))
+";
+
+const EXAMPLE_PRINTOUT: &str = "(ok)
+(ok)
+(ok)
+(ok)
+(ok)
+(ok)
+(ok)
+(refused 15)
+(slot (real 3 90 1518 0))
+(slot (idle 5))
+(slot (real 2 17 64 1454))
+(slot (dummy 2))
+(refused 13)
+";
+
+#[test]
+fn example() {
+    assert_eq!(printed(EXAMPLE), EXAMPLE_PRINTOUT);
+    let first = xorshift32(1);
+    let second = xorshift32(first);
+    let third = xorshift32(second);
+    assert_eq!([first % 400, second % 400, third % 400], [369, 289, 261]);
+}
+
+#[test]
+fn p1_generator() {
+    assert_eq!(xorshift32(1), 270369);
+    assert_eq!(xorshift32(270369), 67634689);
+    assert_eq!(xorshift32(67634689), 2647435461);
+}
+
+#[test]
+fn p2_draw() {
+    let mut core = Core::new();
+    open(&mut core, 1024, 0, 1);
+    join(&mut core, 2, PRIVATE, 300, 0);
+    join(&mut core, 5, PRIVATE, 100, 0);
+    assert_eq!(opened(&core).drawn(&[2, 5], 299), 2);
+    assert_eq!(opened(&core).drawn(&[2, 5], 300), 5);
+}
+
+#[test]
+fn p3_lengths() {
+    let mut core = Core::new();
+    open(&mut core, 1024, 0, 1);
+    join(&mut core, 0, PRIVATE, 1, 0);
+    assert_eq!(arrive(&mut core, 0, 1, 63), Answer::Refused(13));
+    assert_eq!(arrive(&mut core, 0, 1, 1519), Answer::Refused(13));
+    assert_eq!(arrive(&mut core, 0, 1, 64), Answer::Accepted);
+    assert_eq!(arrive(&mut core, 0, 1, 1518), Answer::Accepted);
+}
+
+#[test]
+fn p4_places() {
+    let mut core = Core::new();
+    open(&mut core, 1024, 0, 1);
+    join(&mut core, 0, INDIFFERENT, 1, 64);
+    for handle in 1..=32 {
+        assert_eq!(arrive(&mut core, 0, handle, 64), Answer::Accepted);
+    }
+    assert_eq!(level(&core, 0), 32 * 1024);
+    assert_eq!(arrive(&mut core, 0, 33, 64), Answer::Refused(14));
+    assert_eq!(level(&core, 0), 32 * 1024);
+}
+
+#[test]
+fn p5_level() {
+    let mut core = Core::new();
+    open(&mut core, 1024, 0, 1);
+    join(&mut core, 0, INDIFFERENT, 1, 1);
+    assert_eq!(arrive(&mut core, 0, 1, 64), Answer::Accepted);
+    assert_eq!(level(&core, 0), 0);
+    for _ in 0..1023 {
+        core.perform(&Call::Tick);
+    }
+    assert_eq!(level(&core, 0), 1023);
+    assert_eq!(arrive(&mut core, 0, 2, 64), Answer::Refused(15));
+    core.perform(&Call::Tick);
+    assert_eq!(level(&core, 0), 1024);
+    assert_eq!(arrive(&mut core, 0, 3, 64), Answer::Accepted);
+    assert_eq!(level(&core, 0), 0);
+}
+
+#[test]
+fn p6_threshold() {
+    let mut core = Core::new();
+    open(&mut core, 1000, 0, 1);
+    join(&mut core, 0, PRIVATE, 800, 0);
+    assert_eq!(join(&mut core, 1, PRIVATE, 201, 0), Answer::Refused(10));
+    assert_eq!(join(&mut core, 1, PRIVATE, 200, 0), Answer::Accepted);
+}
+
+#[test]
+fn p7_change_of_rate() {
+    let mut core = Core::new();
+    open(&mut core, 1000, 0, 1);
+    join(&mut core, 0, PRIVATE, 800, 0);
+    assert_eq!(change(&mut core, 0, PRIVATE, 1001, 0), Answer::Refused(10));
+    assert_eq!(change(&mut core, 0, PRIVATE, 1000, 0), Answer::Accepted);
+}
+
+#[test]
+fn p8_pool() {
+    let mut core = Core::new();
+    open(&mut core, 1000, 0, 1);
+    join(&mut core, 0, PRIVATE, 800, 0);
+    assert_eq!(load(&mut core, 0, 255), Answer::Accepted);
+    assert_eq!(load(&mut core, 0, 0), Answer::Accepted);
+    assert_eq!(load(&mut core, 0, 1), Answer::Refused(12));
+    assert_eq!(load(&mut core, 0, 4294967295), Answer::Refused(12));
+}
+
+#[test]
+fn p9_nobody() {
+    let text = "(open 1024 0 7)\n(join 1 (indifferent 5 5))\n(tick)\n";
+    assert_eq!(last(text), "(slot (none))");
+    let mut core = Core::new();
+    open(&mut core, 1024, 1, 7);
+    join(&mut core, 1, INDIFFERENT, 5, 5);
+    core.perform(&Call::Tick);
+    assert_eq!(opened(&core).generator, 7);
+}
+
+#[test]
+fn p10_change_of_type() {
+    for (old, old_burst, new, new_burst) in [(1, 9, 2, 0), (2, 0, 1, 9)] {
+        let mut core = Core::new();
+        open(&mut core, 1024, 0, 7);
+        join(&mut core, 1, old, 5, old_burst);
+        for handle in 0..3 {
+            assert_eq!(arrive(&mut core, 1, handle, 64), Answer::Accepted);
+        }
+        assert_eq!(change(&mut core, 1, new, 5, new_burst), Answer::Accepted);
+        assert!(opened(&core).clients[1].as_ref().unwrap().queue.is_empty());
+        assert_eq!(level(&core, 1), new_burst * 1024);
+    }
+}
+
+#[test]
+fn p11_first_come() {
+    let text = "(open 1024 0 7)\n(join 3 (indifferent 5 5))\n(join 7 (indifferent 5 5))\n\
+                (arrive 3 (packet 1 64))\n(arrive 7 (packet 2 64))\n(arrive 3 (packet 3 64))\n\
+                (tick)\n(tick)\n(tick)\n(tick)\n";
+    let wanted = "(slot (real 3 1 64 0))\n(slot (real 7 2 64 0))\n(slot (real 3 3 64 0))\n\
+                  (slot (none))\n";
+    assert_eq!(printed(text), format!("{}{}", "(ok)\n".repeat(6), wanted));
+}
+
+#[test]
+fn p12_join_of_an_active_id() {
+    let mut core = Core::new();
+    open(&mut core, 1024, 0, 7);
+    join(&mut core, 1, PRIVATE, 5, 0);
+    assert_eq!(join(&mut core, 1, 9, 5, 0), Answer::Refused(6));
+    assert_eq!(join(&mut core, 64, 9, 5, 0), Answer::Refused(4));
+    assert_eq!(join(&mut core, 2, 9, 0, 0), Answer::Refused(7));
+    assert_eq!(join(&mut core, 2, 0, 5, 0), Answer::Refused(7));
+    assert_eq!(join(&mut core, 2, PRIVATE, 5, 1), Answer::Refused(9));
+}
+
+#[test]
+fn table_unopened_and_open() {
+    for line in ["(tick)", "(leave 64)", "(load 0 0)", "(arrive 0 (packet 0 0))",
+                 "(join 64 (private 0))", "(change 0 (indifferent 1 1))"] {
+        assert_eq!(last(&format!("{}\n", line)), "(refused 19)");
+        assert_eq!(last(&format!("(open 0 0 1)\n{}\n", line)), "(refused 19)");
+    }
+    assert_eq!(last("(open 0 2 0)\n"), "(refused 1)");
+    assert_eq!(last("(open 1025 2 0)\n"), "(refused 1)");
+    assert_eq!(last("(open 1024 2 0)\n"), "(refused 2)");
+    assert_eq!(last("(open 1 1 0)\n"), "(refused 3)");
+    assert_eq!(last("(open 1 1 4294967295)\n"), "(ok)");
+    assert_eq!(last("(open 9 0 1)\n(join 1 (private 9))\n(open 0 0 1)\n(leave 1)\n"), "(ok)");
+    assert_eq!(last("(open 9 0 1)\n(join 1 (private 9))\n(open 9 0 1)\n(leave 1)\n"),
+               "(refused 5)");
+}
+
+#[test]
+fn table_clients() {
+    let cases = [
+        ("(leave 64)", "4"), ("(leave 3)", "5"), ("(load 64 0)", "4"), ("(load 3 256)", "5"),
+        ("(load 1 256)", "11"), ("(load 2 256)", "12"), ("(arrive 64 (packet 0 0))", "4"),
+        ("(arrive 3 (packet 0 0))", "5"), ("(arrive 1 (packet 0 0))", "13"),
+        ("(change 3 (private 0))", "5"), ("(change 64 (private 0))", "4"),
+        ("(join 1 (private 0))", "6"), ("(join 3 (private 0))", "8"),
+        ("(join 3 (indifferent 1025 0))", "8"), ("(join 3 (indifferent 1024 0))", "9"),
+        ("(join 3 (indifferent 1024 65))", "9"), ("(join 3 (indifferent 1024 64))", "10"),
+        ("(change 1 (indifferent 925 64))", "10"),
+    ];
+    for (line, number) in cases {
+        let text = format!(
+            "(open 1024 0 1)\n(join 1 (indifferent 100 1))\n(join 2 (private 100))\n{}\n", line);
+        assert_eq!(last(&text), format!("(refused {})", number), "{}", line);
+    }
+}
+
+#[test]
+fn change_within_a_type() {
+    let mut core = Core::new();
+    open(&mut core, 1024, 0, 1);
+    join(&mut core, 1, INDIFFERENT, 10, 4);
+    arrive(&mut core, 1, 8, 64);
+    assert_eq!(level(&core, 1), 3072);
+    change(&mut core, 1, INDIFFERENT, 10, 64);
+    assert_eq!(level(&core, 1), 3072);
+    change(&mut core, 1, INDIFFERENT, 10, 2);
+    assert_eq!(level(&core, 1), 2048);
+    assert_eq!(opened(&core).clients[1].as_ref().unwrap().queue.len(), 1);
+    join(&mut core, 2, PRIVATE, 10, 0);
+    load(&mut core, 2, 7);
+    change(&mut core, 2, PRIVATE, 20, 0);
+    assert_eq!(opened(&core).clients[2].as_ref().unwrap().pool, 7);
+}
+
+#[test]
+fn order_over_leaves_and_changes() {
+    let text = "(open 1024 0 7)\n(join 3 (indifferent 5 5))\n(join 7 (indifferent 5 5))\n\
+                (arrive 3 (packet 1 64))\n(arrive 7 (packet 2 64))\n(arrive 3 (packet 3 64))\n\
+                (change 7 (indifferent 9 9))\n(leave 3)\n(join 3 (indifferent 5 5))\n\
+                (arrive 3 (packet 4 64))\n(arrive 7 (packet 5 64))\n\
+                (tick)\n(tick)\n(tick)\n(tick)\n";
+    let wanted = "(slot (real 7 2 64 0))\n(slot (real 3 4 64 0))\n(slot (real 7 5 64 0))\n\
+                  (slot (none))\n";
+    assert_eq!(printed(text), format!("{}{}", "(ok)\n".repeat(11), wanted));
+}
+
+#[test]
+fn weighted_draw_among_the_indifferent() {
+    // Rates 300 and 100, target 369 of 400: client 5 goes first, after which 2 alone waits.
+    let text = "(open 1024 1 1)\n(join 2 (indifferent 300 5))\n(join 5 (indifferent 100 5))\n\
+                (arrive 2 (packet 1 64))\n(arrive 2 (packet 2 64))\n(arrive 5 (packet 3 64))\n\
+                (tick)\n(tick)\n(tick)\n(tick)\n";
+    let wanted = "(slot (real 5 3 64 0))\n(slot (real 2 1 64 0))\n(slot (real 2 2 64 0))\n\
+                  (slot (none))\n";
+    assert_eq!(printed(text), format!("{}{}", "(ok)\n".repeat(6), wanted));
+}
+
+#[test]
+fn grammar_refusals() {
+    let wrong: [&[u8]; 34] = [
+        b"", b" ", b"(tick) ", b" (tick)", b"( tick)", b"(tick )", b"tick", b"(tick)\r", b"(Tick)",
+        b"(tick", b"(tick))", b"(tick)(tick)", b"(tick)\0", b"\xff(tick)", b"(leave\t1)",
+        b"(leave  1)", b"(leave 01)", b"(leave 00)", b"(leave +1)", b"(leave -1)", b"(leave )",
+        b"(leave 1 )", b"(leave 1 1)", b"(leave #)", b"(join 1(private 1))", b"(join 1 (private 1)",
+        b"(join 1 (private 1 0))", b"(join 1 (indifferent 1))", b"(open 1 0 1 1)",
+        b"(load 1 0 1)", b"(arrive 1 0 (packet 1 64))", b"(minute 5)", b"(join 1 (private 1) 2)",
+        b"(join 1 (group 5))",
+    ];
+    for line in wrong {
+        assert_eq!(parse(line), Line::Refused(16), "{:?}", line);
+    }
+    assert_eq!(parse(b"(change 1 (group 5))"), Line::Refused(16));
+    assert_eq!(parse(b"(windows 1 5 (1 2))"), Line::Refused(16));
+}
+
+#[test]
+fn grammar_numbers() {
+    assert_eq!(parse(b"(leave 4294967295)"), Line::Form(Call::Leave { id: 4294967295 }));
+    assert_eq!(parse(b"(leave 4294967296)"), Line::Refused(17));
+    assert_eq!(parse(b"(leave 0)"), Line::Form(Call::Leave { id: 0 }));
+    let long = format!("(leave {})", "9".repeat(5000));
+    assert_eq!(parse(long.as_bytes()), Line::Refused(17));
+    assert_eq!(parse(b"(leave 18446744073709551617)"), Line::Refused(17));
+    assert_eq!(parse(b"(load 4294967296 01)"), Line::Refused(16));
+    assert_eq!(parse(b"(load 4294967296 1))"), Line::Refused(16));
+    assert_eq!(parse(b"(minute 4294967296)"), Line::Refused(16));
+}
+
+#[test]
+fn whole_script() {
+    assert_eq!(printed(""), "");
+    assert_eq!(printed("\n"), "(refused 16)\n");
+    assert_eq!(printed("\n\n"), "(refused 16)\n(refused 16)\n");
+    assert_eq!(printed("(tick)"), "(refused 16)\n");
+    assert_eq!(printed("(leave 4294967296)"), "(refused 16)\n");
+    assert_eq!(printed("(tick)\n(tick)"), "(refused 19)\n(refused 16)\n");
+    assert_eq!(printed(&"\n".repeat(60000)), "(refused 16)\n".repeat(60000));
+    assert_eq!(printed(&"\n".repeat(60001)), "(refused 18)\n");
+    assert_eq!(printed(&"(tick)\n".repeat(9000)), "(refused 18)\n");
+    assert_eq!(run(b"\0\xff\n\x80"), b"(refused 16)\n(refused 16)\n".to_vec());
+}

@@ -1,0 +1,460 @@
+//! The slot core of paper 01: clients, queues, pools, buckets and the seven calls.
+//! Checking and doing are kept apart: `refusal` only looks, so "nothing changes".
+
+use std::collections::VecDeque;
+
+/// "An active client is indifferent (type 1) or private (type 2)."
+pub const INDIFFERENT: u32 = 1;
+pub const PRIVATE: u32 = 2;
+
+/// The seven calls; "calls take unsigned 32-bit numbers". `kind` is the type.
+#[derive(Debug, Clone, PartialEq, Eq)]
+pub enum Call {
+    Open { threshold: u32, discipline: u32, seed: u32 },
+    Join { id: u32, kind: u32, rate: u32, burst: u32 },
+    Change { id: u32, kind: u32, rate: u32, burst: u32 },
+    Leave { id: u32 },
+    Load { id: u32, count: u32 },
+    Arrive { id: u32, handle: u32, length: u32 },
+    Tick,
+}
+
+/// "A slot's outcome is one of four, and a real one carries its packet".
+#[derive(Debug, Clone, PartialEq, Eq)]
+pub enum Outcome {
+    Real { id: u32, handle: u32, length: u32, padding: u32 },
+    Dummy { id: u32 },
+    Idle { id: u32 },
+    Nobody,
+}
+
+/// What a call gets: accepted, a number of the table, or a tick's slot.
+#[derive(Debug, Clone, PartialEq, Eq)]
+pub enum Answer {
+    Accepted,
+    Refused(u32),
+    Slot(Outcome),
+}
+
+/// "A packet is a handle (any 32-bit number) and a length in bytes."
+/// `number` counts accepted packets since opening: a smaller one was "accepted earlier".
+#[derive(Debug, Clone, PartialEq, Eq)]
+pub struct Packet {
+    pub handle: u32,
+    pub length: u32,
+    pub number: u64,
+}
+
+/// One active client. `pool` matters only if private, `burst` and `level` only if indifferent.
+#[derive(Debug, Clone, PartialEq, Eq)]
+pub struct Client {
+    pub kind: u32,
+    pub rate: u32,
+    pub burst: u32,
+    pub queue: VecDeque<Packet>,
+    pub pool: u32,
+    pub level: u32,
+}
+
+impl Client {
+    /// "A join starts with an empty queue, a pool of 0 and, if indifferent, a full bucket."
+    /// A private client's burst is 0, so its level is 0.
+    fn new(kind: u32, rate: u32, burst: u32) -> Client {
+        Client { kind, rate, burst, queue: VecDeque::new(), pool: 0, level: burst * 1024 }
+    }
+}
+
+/// What an accepted open gives. `clients` has one place for each id from 0 to 63.
+#[derive(Debug, Clone, PartialEq, Eq)]
+pub struct Opened {
+    pub threshold: u32,
+    pub discipline: u32,
+    pub generator: u32,
+    pub accepted: u64,
+    pub clients: Vec<Option<Client>>,
+}
+
+/// "before any accepted open the core is unopened": `opened` is `None` until then.
+#[derive(Debug, Clone, PartialEq, Eq)]
+pub struct Core {
+    pub opened: Option<Opened>,
+}
+
+impl Core {
+    /// An unopened core.
+    pub fn new() -> Core {
+        Core { opened: None }
+    }
+
+    /// "the first [check] that fails gives its number, and nothing changes."
+    pub fn perform(&mut self, call: &Call) -> Answer {
+        if let Some(number) = self.refusal(call) {
+            return Answer::Refused(number);
+        }
+        if let Call::Open { threshold, discipline, seed } = *call {
+            self.opened = Some(Opened::new(threshold, discipline, seed));
+            return Answer::Accepted;
+        }
+        match &mut self.opened {
+            Some(opened) => opened.accepted_call(call),
+            None => Answer::Refused(19),
+        }
+    }
+
+    /// "Checks run down the table": 19 for every call but open, then the call's own rows.
+    fn refusal(&self, call: &Call) -> Option<u32> {
+        if let Call::Open { threshold, discipline, seed } = *call {
+            return open_refusal(threshold, discipline, seed);
+        }
+        let Some(opened) = &self.opened else {
+            return Some(19);
+        };
+        match *call {
+            Call::Open { .. } => None, // answered above
+            Call::Join { id, kind, rate, burst } => opened.join_refusal(id, kind, rate, burst),
+            Call::Change { id, kind, rate, burst } => opened.change_refusal(id, kind, rate, burst),
+            Call::Leave { id } => opened.id_refusal(id),
+            Call::Load { id, count } => opened.load_refusal(id, count),
+            Call::Arrive { id, length, .. } => opened.arrive_refusal(id, length),
+            Call::Tick => None,
+        }
+    }
+}
+
+/// "open | 1, 2, 3 | threshold outside 1..1024; discipline above 1; seed 0"
+fn open_refusal(threshold: u32, discipline: u32, seed: u32) -> Option<u32> {
+    if threshold < 1 || threshold > 1024 {
+        return Some(1);
+    }
+    if discipline > 1 {
+        return Some(2);
+    }
+    if seed == 0 {
+        return Some(3);
+    }
+    None
+}
+
+/// "v becomes v xor (v shifted left 13, high bits lost), then v xor (v shifted right 17),
+/// then v xor (v shifted left 5)."
+pub fn xorshift32(value: u32) -> u32 {
+    let mut v = value;
+    v = v ^ (v << 13);
+    v = v ^ (v >> 17);
+    v = v ^ (v << 5);
+    v
+}
+
+/// The checks: these functions only look.
+impl Opened {
+    /// "every call with an id | 4 | id above 63" and
+    /// "change, leave, load, arrive | 5 | id not active"
+    fn id_refusal(&self, id: u32) -> Option<u32> {
+        if id > 63 {
+            return Some(4);
+        }
+        if self.clients[id as usize].is_none() {
+            return Some(5);
+        }
+        None
+    }
+
+    /// Join: 4, "join | 6 | id active", then the rows of join and change.
+    fn join_refusal(&self, id: u32, kind: u32, rate: u32, burst: u32) -> Option<u32> {
+        if id > 63 {
+            return Some(4);
+        }
+        if self.clients[id as usize].is_some() {
+            return Some(6);
+        }
+        self.terms_refusal(id, kind, rate, burst)
+    }
+
+    /// Change: 4, 5, then the rows of join and change.
+    fn change_refusal(&self, id: u32, kind: u32, rate: u32, burst: u32) -> Option<u32> {
+        if let Some(number) = self.id_refusal(id) {
+            return Some(number);
+        }
+        self.terms_refusal(id, kind, rate, burst)
+    }
+
+    /// "join, change | 7, 8, 9 | type not 1 or 2; rate outside 1..1024; burst outside 1..64
+    /// if indifferent, not 0 if private" and "join, change | 10 | rates would pass the threshold"
+    fn terms_refusal(&self, id: u32, kind: u32, rate: u32, burst: u32) -> Option<u32> {
+        if kind != INDIFFERENT && kind != PRIVATE {
+            return Some(7);
+        }
+        if rate < 1 || rate > 1024 {
+            return Some(8);
+        }
+        if kind == INDIFFERENT && (burst < 1 || burst > 64) {
+            return Some(9);
+        }
+        if kind == PRIVATE && burst != 0 {
+            return Some(9);
+        }
+        if self.rates_of_others(id) + u64::from(rate) > u64::from(self.threshold) {
+            return Some(10);
+        }
+        None
+    }
+
+    /// "the old rate is taken off before the threshold is checked": the rates of all active
+    /// clients but `id` (which, at a join, is not active anyway).
+    fn rates_of_others(&self, id: u32) -> u64 {
+        let mut sum: u64 = 0;
+        for other in 0..64u32 {
+            if let Some(client) = &self.clients[other as usize] {
+                if other != id {
+                    sum += u64::from(client.rate);
+                }
+            }
+        }
+        sum
+    }
+
+    /// "load | 11, 12 | client indifferent; pool would pass 255"
+    fn load_refusal(&self, id: u32, count: u32) -> Option<u32> {
+        if let Some(number) = self.id_refusal(id) {
+            return Some(number);
+        }
+        let client = self.client(id);
+        if client.kind == INDIFFERENT {
+            return Some(11);
+        }
+        if u64::from(client.pool) + u64::from(count) > 255 {
+            return Some(12);
+        }
+        None
+    }
+
+    /// "arrive | 13 | length outside 64..1518", "arrive | 14 | 32 packets wait already",
+    /// "arrive | 15 | indifferent and level below 1024"
+    fn arrive_refusal(&self, id: u32, length: u32) -> Option<u32> {
+        if let Some(number) = self.id_refusal(id) {
+            return Some(number);
+        }
+        let client = self.client(id);
+        if length < 64 || length > 1518 {
+            return Some(13);
+        }
+        if client.queue.len() >= 32 {
+            return Some(14);
+        }
+        if client.kind == INDIFFERENT && client.level < 1024 {
+            return Some(15);
+        }
+        None
+    }
+
+    /// The client of an id already known to be active.
+    fn client(&self, id: u32) -> &Client {
+        self.clients[id as usize].as_ref().expect("the id is active")
+    }
+
+    /// The same, to be changed.
+    fn client_mut(&mut self, id: u32) -> &mut Client {
+        self.clients[id as usize].as_mut().expect("the id is active")
+    }
+}
+
+/// The calls, once every check has been passed.
+impl Opened {
+    /// Open "gives a core without clients, in place of any earlier one."
+    fn new(threshold: u32, discipline: u32, seed: u32) -> Opened {
+        let mut clients = Vec::new();
+        for _ in 0..64 {
+            clients.push(None);
+        }
+        Opened { threshold, discipline, generator: seed, accepted: 0, clients }
+    }
+
+    /// Does one call that no check refuses.
+    fn accepted_call(&mut self, call: &Call) -> Answer {
+        match *call {
+            Call::Open { .. } => {} // done by Core::perform
+            Call::Join { id, kind, rate, burst } => self.join(id, kind, rate, burst),
+            Call::Change { id, kind, rate, burst } => self.change(id, kind, rate, burst),
+            Call::Leave { id } => self.leave(id),
+            Call::Load { id, count } => self.load(id, count),
+            Call::Arrive { id, handle, length } => self.arrive(id, handle, length),
+            Call::Tick => return Answer::Slot(self.tick()),
+        }
+        Answer::Accepted
+    }
+
+    /// "A join starts with an empty queue, a pool of 0 and, if indifferent, a full bucket."
+    fn join(&mut self, id: u32, kind: u32, rate: u32, burst: u32) {
+        self.clients[id as usize] = Some(Client::new(kind, rate, burst));
+    }
+
+    /// "If the type differs, queue and pool become empty, and a new indifferent client's bucket
+    /// is full. If the type stays, queue and pool stay, and a level above the new burst × 1024
+    /// comes down to it."
+    fn change(&mut self, id: u32, kind: u32, rate: u32, burst: u32) {
+        let client = self.client_mut(id);
+        if client.kind != kind {
+            *client = Client::new(kind, rate, burst);
+        } else {
+            client.rate = rate;
+            client.burst = burst;
+            if client.level > burst * 1024 {
+                client.level = burst * 1024;
+            }
+        }
+    }
+
+    /// "Leave empties everything of the id."
+    fn leave(&mut self, id: u32) {
+        self.clients[id as usize] = None;
+    }
+
+    /// "Load adds dummies to a private pool".
+    fn load(&mut self, id: u32, count: u32) {
+        self.client_mut(id).pool += count;
+    }
+
+    /// "Arrive puts one packet last in its client's queue. For an indifferent client it also
+    /// takes 1024 from the bucket."
+    fn arrive(&mut self, id: u32, handle: u32, length: u32) {
+        let number = self.accepted;
+        self.accepted += 1;
+        let client = self.client_mut(id);
+        client.queue.push_back(Packet { handle, length, number });
+        if client.kind == INDIFFERENT {
+            client.level -= 1024;
+        }
+    }
+}
+
+/// The tick.
+impl Opened {
+    /// "Tick is one slot": rules 1 to 3 pick, and "Last" comes rule 4, "after the pick".
+    fn tick(&mut self) -> Outcome {
+        let outcome = self.slot();
+        self.refill();
+        outcome
+    }
+
+    /// Rule 1, "Otherwise" rule 2, "Otherwise the slot has nobody, and the generator is not
+    /// stepped."
+    fn slot(&mut self) -> Outcome {
+        let waiting = self.indifferent_waiting();
+        if !waiting.is_empty() {
+            return self.indifferent_slot(&waiting);
+        }
+        let private = self.private_clients();
+        if !private.is_empty() {
+            return self.private_slot(&private);
+        }
+        Outcome::Nobody
+    }
+
+    /// The indifferent clients "with a packet waiting", by rising id.
+    fn indifferent_waiting(&self) -> Vec<u32> {
+        let mut ids = Vec::new();
+        for id in 0..64u32 {
+            if let Some(client) = &self.clients[id as usize] {
+                if client.kind == INDIFFERENT && !client.queue.is_empty() {
+                    ids.push(id);
+                }
+            }
+        }
+        ids
+    }
+
+    /// "all private clients, waiting or not", by rising id.
+    fn private_clients(&self) -> Vec<u32> {
+        let mut ids = Vec::new();
+        for id in 0..64u32 {
+            if let Some(client) = &self.clients[id as usize] {
+                if client.kind == PRIVATE {
+                    ids.push(id);
+                }
+            }
+        }
+        ids
+    }
+
+    /// Rule 1: "Discipline 0: the packet accepted earliest among all indifferent clients.
+    /// Discipline 1: a draw among those with a packet waiting, then that client's first packet."
+    fn indifferent_slot(&mut self, waiting: &[u32]) -> Outcome {
+        let id = if self.discipline == 0 {
+            self.earliest(waiting)
+        } else {
+            self.draw(waiting)
+        };
+        self.send_first(id).expect("this client waits")
+    }
+
+    /// The client whose first packet is "the packet accepted earliest among all indifferent
+    /// clients" (each queue holds its packets in the order in which they were accepted).
+    fn earliest(&self, waiting: &[u32]) -> u32 {
+        let mut best = waiting[0];
+        for &id in waiting {
+            if self.client(id).queue[0].number < self.client(best).queue[0].number {
+                best = id;
+            }
+        }
+        best
+    }
+
+    /// Rule 2: "The one drawn sends its first packet; without one, a dummy, which lowers its
+    /// pool by 1; without either, the slot idles."
+    fn private_slot(&mut self, private: &[u32]) -> Outcome {
+        let id = self.draw(private);
+        if let Some(outcome) = self.send_first(id) {
+            return outcome;
+        }
+        let client = self.client_mut(id);
+        if client.pool > 0 {
+            client.pool -= 1;
+            return Outcome::Dummy { id };
+        }
+        Outcome::Idle { id }
+    }
+
+    /// Takes out a client's first packet, if it has one. "Padding is 1518 minus the length for
+    /// a private client and 0 for an indifferent one."
+    fn send_first(&mut self, id: u32) -> Option<Outcome> {
+        let client = self.client_mut(id);
+        let packet = client.queue.pop_front()?;
+        let padding = if client.kind == PRIVATE { 1518 - packet.length } else { 0 };
+        Some(Outcome::Real { id, handle: packet.handle, length: packet.length, padding })
+    }
+
+    /// "A draw steps the generator once. The new value modulo the sum of the rates in the draw
+    /// is the target." "The last v is both the value given and the value kept."
+    fn draw(&mut self, ids: &[u32]) -> u32 {
+        self.generator = xorshift32(self.generator);
+        let mut sum: u32 = 0;
+        for &id in ids {
+            sum += self.client(id).rate;
+        }
+        self.drawn(ids, self.generator % sum)
+    }
+
+    /// "The client drawn is the first, by rising id, at which the running sum of rates exceeds
+    /// the target."
+    pub fn drawn(&self, ids: &[u32], target: u32) -> u32 {
+        let mut running: u32 = 0;
+        for &id in ids {
+            running += self.client(id).rate;
+            if running > target {
+                return id;
+            }
+        }
+        panic!("the target is below the sum of the rates")
+    }
+
+    /// Rule 4: "for every indifferent client, ... the rate is added, up to burst × 1024."
+    fn refill(&mut self) {
+        for id in 0..64u32 {
+            if let Some(client) = &mut self.clients[id as usize] {
+                if client.kind == INDIFFERENT {
+                    client.level = (client.level + client.rate).min(client.burst * 1024);
+                }
+            }
+        }
+    }
+}

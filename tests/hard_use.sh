@@ -1,0 +1,38 @@
+#!/bin/bash
+# `slots` where its surroundings fail: it ends, prints only whole answers, and says on standard error what went wrong.
+#   tests/hard_use.sh SLOTS    in the root of the repository
+slots=$1 passed=0 failed=0
+script=examples/day.script printout=examples/day.printout
+folder=$(mktemp -d)
+trap 'rm -rf "$folder"' EXIT
+
+# check NAME COMMAND..: the command succeeds within ten seconds
+check() {
+    if timeout 10 bash -c "$2" >/dev/null; then
+        passed=$((passed + 1)); echo "passed: $1"
+    else
+        failed=$((failed + 1)); echo "failed: $1"
+    fi
+}
+export slots script printout folder
+
+check "a full disk is told on standard error" \
+    '$slots <$script 2>$folder/err >/dev/full; grep -q "^slots: standard output: No space" $folder/err'
+check "a closed output is told on standard error" \
+    '$slots <$script 2>$folder/err >&-; grep -q "^slots: standard output: Bad file" $folder/err'
+check "a missing input is told on standard error, and prints nothing" \
+    '$slots <&- 2>$folder/err >$folder/out; [ ! -s $folder/out ] && grep -q "^slots: standard input: Bad file" $folder/err'
+check "a folder as input is told on standard error, and prints nothing" \
+    '$slots <. 2>$folder/err >$folder/out; [ ! -s $folder/out ] && grep -q "^slots: standard input: Is a dir" $folder/err'
+check "an input that comes a byte at a time is printed as a whole one" \
+    'while IFS= read -r -n 1 -d "" byte; do printf %s "$byte"; done <$script | $slots | cmp - $printout'
+check "an input that pauses in the middle of a line is waited for" \
+    '{ head -c 50 $script; sleep 1; tail -c +51 $script; } | $slots | cmp - $printout'
+check "an input without end is refused with 18 as soon as it is too long" \
+    '[ "$(yes "(tick)" | $slots)" = "(refused 18)" ] && [ "$($slots </dev/zero)" = "(refused 18)" ]'
+check "a reader that closes early does no harm" \
+    '[ "$(yes "" | head -c 60000 | $slots | head -n 1)" = "(refused 16)" ]'
+check "nothing is written to standard error where all is well" \
+    '$slots <$script 2>&1 | cmp - $printout'
+echo "$passed passed, $failed failed"
+[ "$failed" = 0 ]

@@ -1,0 +1,196 @@
+//! `compare SLOTS FIRST_SEED COUNT`: sends scripts through a program and through the second
+//! program and compares every byte of the printouts.
+
+mod lines;
+mod program;
+mod random;
+mod scripts;
+mod shrink;
+
+use program::{run, shown, Run};
+use second::core::{Answer, Call, Core, Outcome, INDIFFERENT};
+use second::script::{parse, Line};
+
+/// How often each number and each outcome came up, to show that the run was not idle.
+struct Tally {
+    numbers: [u64; 20],
+    outcomes: [u64; 5],
+    lines: u64,
+    bytes: u64,
+}
+
+const OUTCOMES: [&str; 5] = ["real of indifferent", "real of private", "dummy", "idle", "none"];
+
+/// A run of this many scripts must have met every number and outcome that a script can reach.
+const ENOUGH: u64 = 1000;
+
+/// "type not 1 or 2": no form of the grammar can carry such a type.
+const UNREACHABLE: usize = 7;
+
+impl Tally {
+    /// Follows a script line by line, since the printout alone does not tell the type of the
+    /// client that sent a packet.
+    fn add(&mut self, text: &[u8], printout: &[u8]) {
+        self.lines += printout.iter().filter(|&&byte| byte == b'\n').count() as u64;
+        self.bytes += printout.len() as u64;
+        if printout == b"(refused 18)\n" && text.len() > 60_000 {
+            self.numbers[18] += 1;
+            return;
+        }
+        let mut core = Core::new();
+        for line in text.split_inclusive(|&byte| byte == b'\n') {
+            let Some(line) = line.strip_suffix(b"\n") else {
+                self.numbers[16] += 1;
+                return;
+            };
+            match parse(line) {
+                Line::Refused(number) => self.numbers[number as usize] += 1,
+                Line::Form(call) => self.add_call(&mut core, &call),
+            }
+        }
+    }
+
+    fn add_call(&mut self, core: &mut Core, call: &Call) {
+        match core.perform(call) {
+            Answer::Accepted => {}
+            Answer::Refused(number) => self.numbers[number as usize] += 1,
+            Answer::Slot(outcome) => {
+                let place = match outcome {
+                    Outcome::Real { id, .. } if is_indifferent(core, id) => 0,
+                    Outcome::Real { .. } => 1,
+                    Outcome::Dummy { .. } => 2,
+                    Outcome::Idle { .. } => 3,
+                    Outcome::Nobody => 4,
+                };
+                self.outcomes[place] += 1;
+            }
+        }
+    }
+
+    /// Prints the counts; false if something that a script can reach never came up.
+    fn print(&self) -> bool {
+        let mut complete = true;
+        for number in 1..20 {
+            println!("number {}: {}", number, self.numbers[number]);
+            complete &= self.numbers[number] > 0 || number == UNREACHABLE;
+        }
+        for place in 0..5 {
+            println!("{}: {}", OUTCOMES[place], self.outcomes[place]);
+            complete &= self.outcomes[place] > 0;
+        }
+        complete
+    }
+}
+
+/// A tick changes no type, so the type after it is the type at it.
+fn is_indifferent(core: &Core, id: u32) -> bool {
+    let opened = core.opened.as_ref().expect("a slot comes from an opened core");
+    opened.clients[id as usize].as_ref().is_some_and(|client| client.kind == INDIFFERENT)
+}
+
+fn expected(text: &[u8]) -> Run {
+    Run { printout: second::script::run(text), ended_well: true }
+}
+
+/// The smallest script found that still differs: fewest lines, then fewest bytes in each line,
+/// then small numbers, and again, as smaller numbers may let lines go. The count of runs is
+/// bounded, as a text past 60,000 bytes hardly shrinks.
+fn smallest(program: &str, text: &[u8]) -> Vec<u8> {
+    let mut runs_left = 10_000;
+    let mut differs = |text: &[u8]| {
+        runs_left -= 1;
+        runs_left >= 0 && run(program, text) != expected(text)
+    };
+    let mut text = text.to_vec();
+    loop {
+        let before = text.clone();
+        text = fewer_lines(&text, &mut differs);
+        text = fewer_bytes(&text, &mut differs);
+        text = smaller_numbers(text, &mut differs);
+        if text == before {
+            return text;
+        }
+    }
+}
+
+fn fewer_lines(text: &[u8], differs: &mut dyn FnMut(&[u8]) -> bool) -> Vec<u8> {
+    let lines: Vec<&[u8]> = text.split_inclusive(|&byte| byte == b'\n').collect();
+    shrink::fewest(&lines, &mut |lines: &[&[u8]]| differs(&lines.concat())).concat()
+}
+
+fn fewer_bytes(text: &[u8], differs: &mut dyn FnMut(&[u8]) -> bool) -> Vec<u8> {
+    let mut lines: Vec<Vec<u8>> =
+        text.split_inclusive(|&byte| byte == b'\n').map(|line| line.to_vec()).collect();
+    for place in 0..lines.len() {
+        let (before, after) = (lines[..place].concat(), lines[place + 1..].concat());
+        lines[place] = shrink::fewest(&lines[place], &mut |line: &[u8]| {
+            differs(&[&before, line, &after].concat())
+        });
+    }
+    lines.concat()
+}
+
+/// Puts 0, 1, a half or one less for each number, while the script still differs.
+fn smaller_numbers(text: Vec<u8>, differs: &mut dyn FnMut(&[u8]) -> bool) -> Vec<u8> {
+    let mut text = text;
+    let mut place = 0;
+    while let Some(&(start, end)) = lines::digit_runs(&text).get(place) {
+        let digits = String::from_utf8_lossy(&text[start..end]).into_owned();
+        let value: u128 = digits.parse().unwrap_or(0);
+        let mut smaller = None;
+        for other in [0, 1, value / 2, value.saturating_sub(1)] {
+            let other_text = [&text[..start], other.to_string().as_bytes(), &text[end..]].concat();
+            if other < value && differs(&other_text) {
+                smaller = Some(other_text);
+                break;
+            }
+        }
+        match smaller {
+            Some(other_text) => text = other_text,
+            None => place += 1,
+        }
+    }
+    text
+}
+
+fn report(program: &str, seed: u64, text: &[u8]) {
+    println!("seed {}: the printouts differ", seed);
+    let small = smallest(program, text);
+    let (found, wanted) = (run(program, &small), expected(&small));
+    println!("smallest script, {} bytes:\n{}", small.len(), shown(&small));
+    println!("printout of {}:\n{}", program, shown(&found.printout));
+    if !found.ended_well {
+        println!("(it did not end well)");
+    }
+    println!("printout of the second program:\n{}", shown(&wanted.printout));
+}
+
+fn main() {
+    let arguments: Vec<String> = std::env::args().collect();
+    let [_, program, first, count] = &arguments[..] else {
+        eprintln!("use: compare SLOTS FIRST_SEED COUNT");
+        std::process::exit(2);
+    };
+    let first: u64 = first.parse().expect("FIRST_SEED is a number");
+    let count: u64 = count.parse().expect("COUNT is a number");
+    let mut tally = Tally { numbers: [0; 20], outcomes: [0; 5], lines: 0, bytes: 0 };
+    for step in 0..count {
+        let seed = first.wrapping_add(step);
+        let text = scripts::script(seed);
+        let wanted = expected(&text);
+        if run(program, &text) != wanted {
+            report(program, seed, &text);
+            std::process::exit(1);
+        }
+        tally.add(&text, &wanted.printout);
+    }
+    let complete = tally.print();
+    println!(
+        "compared {} scripts, {} lines, {} bytes: no difference",
+        count, tally.lines, tally.bytes
+    );
+    if count >= ENOUGH && !complete {
+        println!("but not every number and outcome came up");
+        std::process::exit(1);
+    }
+}
