@@ -17,7 +17,8 @@ use Rattle.marks.proofs.Words.{marked-first-lt, marked-first}
 use Rattle.draw.proofs.Walk.{firstOf, RestOf}
 use Rattle.tables.specs.Tables.{field, rateAt, burstAt, levelAt}
 use Rattle.tables.proofs.Fields.{field-set-same, field-set-field, field-set-id}
-use Rattle.slot.specs.Buckets.{Bucket, Refillable, levelAfter, Refilled}
+use Rattle.bucket.specs.Buckets.{Within}
+use Rattle.slot.specs.Buckets.{bucketAt, Refillable, levelAfter, Refilled}
 
 -- the rates stand first in the table
 pub rate-first : (clients : List ℕ) (id : ℕ) → rateAt clients id ≡ getD clients id 0
@@ -78,7 +79,7 @@ module _ (word left : ℕ) (before now : List ℕ) (old : Refillable word before
   kept : levelAt now id ≡ levelAt before id
   kept = f .levels id first-below ∙ rw (first-word, first-left)
 
-  pub first-bucket : Bucket now id
+  pub first-bucket : Within (bucketAt now id)
   first-bucket =
       let b = old .buckets id first-below in
       let rate : rateAt now id ≡ rateAt before id = f .others 0 id first-below (omega arith) in

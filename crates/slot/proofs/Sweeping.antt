@@ -1,7 +1,7 @@
 -- A sweep over all ids that refills one bucket after the other: an id below the one reached has the level after, and the
 -- others what they had. At the end the ids without a mark, which have no bucket, are as they were. Assumes nothing.
 use Prim.Native.Nat.{ℕ, _+_, _*_, _≤_, _<_, min}
-use mathlib.Core.Path.{_≡_, refl, sym, ap, ap₂, _∙_}
+use mathlib.Core.Path.{_≡_, refl, ap, _∙_}
 use mathlib.Core.Logic.{_≢_}
 use mathlib.Core.Bool.{Bool, true, false, cond}
 use mathlib.Core.List.{List}
@@ -13,7 +13,8 @@ use Rattle.definitions.proofs.Laws.Tests.{eqb-cases}
 use Rattle.marks.specs.Marks.{marked}
 use Rattle.tables.specs.Tables.{field, rateAt, burstAt, levelAt}
 use Rattle.tables.proofs.Fields.{field-set-same, field-set-field, field-set-id}
-use Rattle.slot.specs.Buckets.{Bucket, Refillable, levelAfter, Refilled}
+use Rattle.bucket.specs.Buckets.{Within}
+use Rattle.slot.specs.Buckets.{bucketAt, Refillable, levelAfter, Refilled}
 
 -- the ids below n are refilled
 pub record Sweep (n : ℕ) (before now : List ℕ) : Type 0 where
@@ -35,7 +36,7 @@ module _ (before now : List ℕ) (id : ℕ) (s : Sweep id before now) (below : i
   pub reached-level : levelAt now id ≡ levelAt before id
   reached-level = s .left id below (omega arith)
 
-  pub reached-bucket : Bucket before id → Bucket now id
+  pub reached-bucket : Within (bucketAt before id) → Within (bucketAt now id)
   reached-bucket b = record {
     level = rw (reached-level, s .others 1 id below (λ e. omega arith)) (b .level);
     rate = rw (s .others 0 id below (λ e. omega arith)) (b .rate);

@@ -1,29 +1,29 @@
 -- The buckets of the marked ids before and after rule 4: "each bucket is refilled where it is kept".
-use Prim.Native.Nat.{ℕ, _+_, _*_, _≤_, _<_, min}
+use Prim.Native.Nat.{ℕ, _*_, _<_}
 use mathlib.Core.Path.{_≡_}
 use mathlib.Core.Logic.{_≢_}
 use mathlib.Core.Bool.{false, cond}
 use mathlib.Core.List.{List}
 use lib.ListN.{length}
-use Rattle.definitions.specs.Sizes.{ids, shares, burstLimit}
+use Rattle.definitions.specs.Sizes.{ids}
 use Rattle.marks.specs.Marks.{marked}
+use Rattle.bucket.specs.declared.Bucket.{Bucket}
+use Rattle.bucket.specs.Buckets.{bucketOf, Within, refilled}
 use Rattle.tables.specs.Tables.{field, rateAt, burstAt, levelAt}
 
--- an id's bucket is within the limits, so that its refill does not wrap
-pub record Bucket (clients : List ℕ) (id : ℕ) : Type 0 where
-  pub level : levelAt clients id ≤ burstAt clients id * shares
-  pub rate : rateAt clients id ≤ shares
-  pub burst : burstAt clients id ≤ burstLimit
+-- the bucket of an id, as the table keeps it
+abbrev pub bucketAt : List ℕ → ℕ → Bucket
+bucketAt clients id = bucketOf (levelAt clients id) (rateAt clients id) (burstAt clients id)
 
 -- The ids without a mark have no bucket: burst and level are 0, and a refill leaves them so.
 pub record Refillable (word : ℕ) (clients : List ℕ) : Type 0 where
   pub size : length clients ≡ 6 * ids
-  pub buckets : (id : ℕ) → id < ids → Bucket clients id
+  pub buckets : (id : ℕ) → id < ids → Within (bucketAt clients id)
   pub none : (id : ℕ) → id < ids → marked word id ≡ false → burstAt clients id ≡ 0
 
 -- "the rate is added, up to burst × 1024"
 unfoldable pub levelAfter : List ℕ → ℕ → ℕ
-levelAfter clients id = min (levelAt clients id + rateAt clients id) (burstAt clients id * shares)
+levelAfter clients id = refilled (bucketAt clients id) .level
 
 -- the level of each marked id is refilled, and no other number changes
 pub record Refilled (word : ℕ) (before after : List ℕ) : Type 0 where

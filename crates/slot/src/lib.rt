@@ -13,14 +13,13 @@ use tables::HEAD;
 use tables::LEVEL;
 use tables::PLACES;
 use tables::POOL;
-use tables::SHARES;
 use tables::STORE;
 ghost use mathlib.Core.Path.{_≡_};
 ghost use mathlib.Core.Bool.{cond};
 ghost use mathlib.Core.List.{List};
-ghost use Prim.Native.Nat.{ℕ, _+_, _*_, _-_, _≤_, _<_, min};
+ghost use Prim.Native.Nat.{ℕ, _-_, _≤_, _<_};
 ghost use Rattle.definitions.specs.declared.Call.the-variants.{Tick};
-ghost use Rattle.definitions.specs.Sizes.{ids, places, shares, burstLimit, longest};
+ghost use Rattle.definitions.specs.Sizes.{ids, places, longest};
 ghost use Rattle.definitions.specs.Draw.{sumBelow};
 ghost use Rattle.definitions.specs.Tick.{turn};
 ghost use Rattle.marks.specs.Marks.{marked};
@@ -278,16 +277,6 @@ fn spend(
     }
 }
 
-// A bucket's level after a refill: the rate is added, up to the burst. Within the limits no sum wraps.
-fn refill(level: u32, rate: u32, burst: u32) -> u32
-    requires { ⌜ (level ≤ burst * shares) × (rate ≤ shares) × (burst ≤ burstLimit) ⌝ }
-    ensures { λ r. ⌜ r ≡ min (level + rate) (burst * shares) ⌝ }
-{
-    let full = burst * SHARES;
-    let sum = level + rate;
-    if sum < full { sum } else { full }
-}
-
 // Refills the bucket of every marked id where it is kept. Where most ids are marked, it is quicker to go through all.
 fn refill_all(word: u64, clients: &mut [u32; CLIENTS])
     requires { ⌜ Refillable word (now clients) ⌝ }
@@ -309,7 +298,7 @@ fn refill_marked(word: u64, clients: &mut [u32; CLIENTS])
     while left != 0 {
         let id = marks::first(left);
         let at = (LEVEL + id) as usize;
-        clients[at] = refill(
+        clients[at] = bucket::level_after(
             clients[at],
             clients[id as usize],
             clients[(BURST + id) as usize],
@@ -325,7 +314,7 @@ fn refill_each(word: u64, clients: &mut [u32; CLIENTS])
 {
     let mut id: usize = 0;
     while id < EACH {
-        clients[FIRST_LEVEL + id] = refill(
+        clients[FIRST_LEVEL + id] = bucket::level_after(
             clients[FIRST_LEVEL + id],
             clients[id],
             clients[FIRST_BURST + id],

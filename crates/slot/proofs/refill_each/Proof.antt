@@ -9,9 +9,6 @@ use Rattle.slot.proofs.Filling.{rate-first}
 use Rattle.slot.proofs.Sweeping.{Sweep, sweep-start, reached-bucket, sweep-step, sweep-done}
 use Rattle.slot.proofs.refill_each.Statement.{statement}
 use Rattle.slot.proofs.refill_each.Tie as tie
-use Rattle.slot.proofs.refill_each.Reads as reads
-use Rattle.slot.proofs.refill_each.Lts as lts
-use Rattle.slot.proofs.refill.Reads as refill-reads
 
 abbrev Inv-loop : tie.InvT-loop
 Inv-loop word clients₀ id₀ clients id = (id ≤ 64) × Sweep id clients₀ clients
@@ -22,38 +19,38 @@ abbrev μ-loop : tie.MeasureT-loop
 loop-holds : tie.Need-loop-holds Inv-loop μ-loop
 loop-holds c = (omega arith, sweep-start (c .args .clients .now))
 
-add-refill : tie.Need-add-refill Inv-loop μ-loop
-add-refill c = search needs
+add-level-after : tie.Need-add-level-after Inv-loop μ-loop
+add-level-after c = search needs
 
-mul-refill : tie.Need-mul-refill Inv-loop μ-loop
-mul-refill c = search needs
+mul-level-after : tie.Need-mul-level-after Inv-loop μ-loop
+mul-level-after c = search needs
 
-element-copy-out-refill : tie.Need-element-copy-out-refill Inv-loop μ-loop
-element-copy-out-refill c = search needs
+element-copy-out-level-after : tie.Need-element-copy-out-level-after Inv-loop μ-loop
+element-copy-out-level-after c = search needs
 
-mul-refill-2 : tie.Need-mul-refill-2 Inv-loop μ-loop
-mul-refill-2 c = search needs
+mul-level-after-2 : tie.Need-mul-level-after-2 Inv-loop μ-loop
+mul-level-after-2 c = search needs
 
-element-copy-out-refill-2 : tie.Need-element-copy-out-refill-2 Inv-loop μ-loop
-element-copy-out-refill-2 c = search needs
+element-copy-out-level-after-2 : tie.Need-element-copy-out-level-after-2 Inv-loop μ-loop
+element-copy-out-level-after-2 c = search needs
 
-add-refill-2 : tie.Need-add-refill-2 Inv-loop μ-loop
-add-refill-2 c = search needs
+add-level-after-2 : tie.Need-add-level-after-2 Inv-loop μ-loop
+add-level-after-2 c = search needs
 
-mul-refill-3 : tie.Need-mul-refill-3 Inv-loop μ-loop
-mul-refill-3 c = search needs
+mul-level-after-3 : tie.Need-mul-level-after-3 Inv-loop μ-loop
+mul-level-after-3 c = search needs
 
-element-copy-out-refill-3 : tie.Need-element-copy-out-refill-3 Inv-loop μ-loop
-element-copy-out-refill-3 c = search needs
+element-copy-out-level-after-3 : tie.Need-element-copy-out-level-after-3 Inv-loop μ-loop
+element-copy-out-level-after-3 c = search needs
 
-refill-requires : tie.Need-refill-requires Inv-loop μ-loop
+level-after-requires : tie.Need-level-after-requires Inv-loop μ-loop
 unfolding field ids
-refill-requires c κs =
+level-after-requires c κs =
     let at = c .before .before .before .before in
     let below : at .loop .id < 64 = omega arith in
     let b = reached-bucket (at .before .args .clients .now) (at .loop .clients) (at .loop .id) (at .loop .inv .1) below
     (at .before .pre .buckets (at .loop .id) below) in
-    (b .level, omega (arith, b .rate, rate-first (at .loop .clients) (at .loop .id)), b .burst)
+    rw (← (rate-first (at .loop .clients) (at .loop .id))) b
 
 add-clients : tie.Need-add-clients Inv-loop μ-loop
 add-clients c = search needs
@@ -76,7 +73,7 @@ loop-again c =
     let at = c .before .before .before .before .before in
     let below : at .loop .id < 64 = omega arith in
     let next = sweep-step (at .before .args .clients .now) (at .loop .clients) (at .loop .id) (at .loop .inv .1) below (at .before .pre .size) in
-    (omega arith, rw (c .refill .ensures, ← (rate-first (at .loop .clients) (at .loop .id))) next)
+    (omega arith, rw (c .level-after .ensures, ← (rate-first (at .loop .clients) (at .loop .id))) next)
 
 returns : tie.Need-returns Inv-loop μ-loop
 unfolding ids
@@ -91,15 +88,15 @@ refill-each-spec =
     Inv-loop
     μ-loop
     loop-holds
-    add-refill
-    mul-refill
-    element-copy-out-refill
-    mul-refill-2
-    element-copy-out-refill-2
-    add-refill-2
-    mul-refill-3
-    element-copy-out-refill-3
-    refill-requires
+    add-level-after
+    mul-level-after
+    element-copy-out-level-after
+    mul-level-after-2
+    element-copy-out-level-after-2
+    add-level-after-2
+    mul-level-after-3
+    element-copy-out-level-after-3
+    level-after-requires
     add-clients
     mul-clients
     element-write-clients

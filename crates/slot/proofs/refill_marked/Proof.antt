@@ -6,7 +6,8 @@ use native.Mathlib.Omega.{arith}
 use mathlib.Core.Path.{_∙_}
 use Rattle.definitions.specs.Sizes.{ids}
 use Rattle.tables.specs.Tables.{field}
-use Rattle.slot.specs.Buckets.{Bucket, levelAfter}
+use Rattle.bucket.specs.Buckets.{Within}
+use Rattle.slot.specs.Buckets.{bucketAt, levelAfter}
 use Rattle.slot.proofs.Filling.{Filling, filling-start, filling-done, first-below, first-bucket, filling-step}
 use Rattle.slot.proofs.Filling.{rate-first}
 use Rattle.slot.proofs.refill_marked.Statement.{statement}
@@ -31,7 +32,7 @@ below c =
       first-below _ _ _ _ (c .before .before .before .pre) (c .before .before .loop .inv) (more (c .before)),
     )
 
-bucket : (c : tie.After-first Inv-loop μ-loop) → Bucket (c .before .before .loop .clients) (c .first .result)
+bucket : (c : tie.After-first Inv-loop μ-loop) → Within (bucketAt (c .before .before .loop .clients) (c .first .result))
 bucket c =
     rw (c .first .ensures)
     (first-bucket _ _ _ _ (c .before .before .before .pre) (c .before .before .loop .inv) (more (c .before)))
@@ -49,39 +50,39 @@ add-at c = omega (arith, below c)
 cast-at : tie.Need-cast-at Inv-loop μ-loop
 cast-at c = search needs
 
-mul-refill : tie.Need-mul-refill Inv-loop μ-loop
-mul-refill c = search needs
+mul-level-after : tie.Need-mul-level-after Inv-loop μ-loop
+mul-level-after c = search needs
 
-element-copy-out-refill : tie.Need-element-copy-out-refill Inv-loop μ-loop
-element-copy-out-refill c = omega (arith, below c)
+element-copy-out-level-after : tie.Need-element-copy-out-level-after Inv-loop μ-loop
+element-copy-out-level-after c = omega (arith, below c)
 
-cast-refill : tie.Need-cast-refill Inv-loop μ-loop
-cast-refill c = search needs
+cast-level-after : tie.Need-cast-level-after Inv-loop μ-loop
+cast-level-after c = search needs
 
-mul-refill-2 : tie.Need-mul-refill-2 Inv-loop μ-loop
-mul-refill-2 c = search needs
+mul-level-after-2 : tie.Need-mul-level-after-2 Inv-loop μ-loop
+mul-level-after-2 c = search needs
 
-element-copy-out-refill-2 : tie.Need-element-copy-out-refill-2 Inv-loop μ-loop
-element-copy-out-refill-2 c = omega (arith, below (c .before))
+element-copy-out-level-after-2 : tie.Need-element-copy-out-level-after-2 Inv-loop μ-loop
+element-copy-out-level-after-2 c = omega (arith, below (c .before))
 
-add-refill : tie.Need-add-refill Inv-loop μ-loop
-add-refill c = omega (arith, below (c .before .before))
+add-level-after : tie.Need-add-level-after Inv-loop μ-loop
+add-level-after c = omega (arith, below (c .before .before))
 
-cast-refill-2 : tie.Need-cast-refill-2 Inv-loop μ-loop
-cast-refill-2 c = search needs
+cast-level-after-2 : tie.Need-cast-level-after-2 Inv-loop μ-loop
+cast-level-after-2 c = search needs
 
-mul-refill-3 : tie.Need-mul-refill-3 Inv-loop μ-loop
-mul-refill-3 c = search needs
+mul-level-after-3 : tie.Need-mul-level-after-3 Inv-loop μ-loop
+mul-level-after-3 c = search needs
 
-element-copy-out-refill-3 : tie.Need-element-copy-out-refill-3 Inv-loop μ-loop
-element-copy-out-refill-3 c = omega (arith, below (c .before .before))
+element-copy-out-level-after-3 : tie.Need-element-copy-out-level-after-3 Inv-loop μ-loop
+element-copy-out-level-after-3 c = omega (arith, below (c .before .before))
 
-refill-requires : tie.Need-refill-requires Inv-loop μ-loop
+level-after-requires : tie.Need-level-after-requires Inv-loop μ-loop
 unfolding field ids
-refill-requires c κs =
+level-after-requires c κs =
     let at = c .before .before .before in
     let b = bucket at in
-    (b .level, omega (arith, b .rate, rate-first (at .before .before .loop .clients) (at .first .result)), b .burst)
+    rw (← (rate-first (at .before .before .loop .clients) (at .first .result))) b
 
 mul-clients : tie.Need-mul-clients Inv-loop μ-loop
 mul-clients c = search needs
@@ -102,8 +103,8 @@ loop-again c =
     let at = c .before .before .before .before .before in
     rw (at .first .ensures)
     (filling-step _ _ _ _ (top .before .before .pre) (top .before .loop .inv) (more top) (c .rest .result)
-    (c .before .refill .result) (c .rest .ensures .0) (loop-less c)
-    (c .before .refill .ensures ∙ rw (rate-first _ _, at .first .ensures)))
+    (c .before .level-after .result) (c .rest .ensures .0) (loop-less c)
+    (c .before .level-after .ensures ∙ rw (rate-first _ _, at .first .ensures)))
 
 returns : tie.Need-returns Inv-loop μ-loop
 returns c = filling-done _ _ _ _ (c .before .loop .inv) (c .loop-test .left)
@@ -118,16 +119,16 @@ refill-marked-spec =
     first-requires
     add-at
     cast-at
-    mul-refill
-    element-copy-out-refill
-    cast-refill
-    mul-refill-2
-    element-copy-out-refill-2
-    add-refill
-    cast-refill-2
-    mul-refill-3
-    element-copy-out-refill-3
-    refill-requires
+    mul-level-after
+    element-copy-out-level-after
+    cast-level-after
+    mul-level-after-2
+    element-copy-out-level-after-2
+    add-level-after
+    cast-level-after-2
+    mul-level-after-3
+    element-copy-out-level-after-3
+    level-after-requires
     mul-clients
     element-write-clients
     rest-requires

@@ -1,11 +1,11 @@
--- `slot::refill` meets its contract: the sum and the burst's whole bucket fit, and the lesser of the two is taken.
+-- `bucket::filled` meets its contract: the sum and the burst's whole bucket fit, and the lesser of the two is taken.
 -- Assumes nothing.
 use native.Mathlib.Omega.{arith}
 use native.Mathlib.Nat.{min-eq-left, min-eq-right}
 use mathlib.Core.Path.{sym}
 use Rattle.definitions.specs.Sizes.{shares, burstLimit}
-use Rattle.slot.proofs.refill.Statement.{statement}
-use Rattle.slot.proofs.refill.Tie as tie
+use Rattle.bucket.proofs.filled.Statement.{statement}
+use Rattle.bucket.proofs.filled.Tie as tie
 
 mul-full : tie.Need-mul-full
 unfolding shares burstLimit
@@ -23,5 +23,5 @@ returns-2 : tie.Need-returns-2
 unfolding shares
 returns-2 c = sym (min-eq-right (omega arith))
 
-pub refill-spec : {M : Type 1} → statement M
-refill-spec = tie.close (tie.spec mul-full add-sum returns returns-2)
+pub filled-spec : {M : Type 1} → statement M
+filled-spec = tie.close (tie.spec mul-full add-sum returns returns-2)
