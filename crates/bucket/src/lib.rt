@@ -1,10 +1,8 @@
 // The bucket of an indifferent client (paper 01, "Clients, queues, pools"), and the refill of the bucket that it is lent.
 // The formula is covered; `refill` and `level_after` reach a struct through a reference, and are proved by a walk.
+use definitions::SHARES;
 ghost use mathlib.Core.Path.{_≡_};
 ghost use Rattle.bucket.specs.Buckets.{bucketOf, Within, levelAfter, refilled};
-
-// What a packet costs a bucket, and how many of it a burst of one is; the link has as many shares.
-const SHARES: u32 = 1024;
 
 pub struct Bucket {
     pub level: u32,

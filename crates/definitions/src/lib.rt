@@ -1,4 +1,30 @@
 // The types of paper 01: what is handed to the core and what it answers. Their meaning stands in specs/.
+// Its numbers, too, as the code has them; for the proofs they stand in specs/Sizes.antt, and no two can disagree.
+
+// How many ids there are, and how many places each has.
+pub const IDS: u32 = 64;
+
+pub const PLACES: u32 = 32;
+
+// The shares of the link. A packet costs a bucket as many, and a burst is counted in them.
+pub const SHARES: u32 = 1024;
+
+pub const BURST_LIMIT: u32 = 64;
+
+pub const POOL_LIMIT: u64 = 255;
+
+// The lengths of a packet. A private one is padded to the longest.
+pub const SHORTEST: u32 = 64;
+
+pub const LONGEST: u32 = 1518;
+
+// The types of a client.
+pub const INDIFFERENT: u32 = 1;
+
+pub const PRIVATE: u32 = 2;
+
+// The discipline by which the packet that was accepted earliest goes first.
+pub const FIRST_COME: u32 = 0;
 
 // A packet: a handle, which the core carries and never reads, and a length in bytes.
 pub struct Packet {

@@ -1,37 +1,29 @@
 // The weighted draw over a word of marks and a table of rates: the first id, by rising id, at which
 // the running sum of rates exceeds the target. Ids without a mark weigh nothing, and are not visited.
+// The rates stand first in the clients' table, which is lent whole.
+use definitions::IDS;
+use tables::CLIENTS;
 ghost use mathlib.Core.Path.{_≡_};
-ghost use Prim.Native.Nat.{_<_, _^_};
 ghost use Rattle.definitions.specs.Sizes.{ids};
 ghost use Rattle.definitions.specs.Draw.{sumBelow, drawnAt};
 ghost use Rattle.draw.specs.Weights.{weightAt};
 
-// How many ids there are, which is also the answer of a draw that finds none.
-const IDS: u32 = 64;
-
-// A rate, as wide as a sum of rates.
-fn wide(rate: u32) -> u64
-    ensures { λ r. ⌜ (r ≡ rate) × (r < 2 ^ 32) ⌝ }
-{
-    rate as u64
-}
-
 // The rates of all ids that have a mark, together. The sum of 64 rates fits a u64.
-pub fn total(word: u64, rates: &[u32; 384]) -> u64
+pub fn total(word: u64, rates: &[u32; CLIENTS]) -> u64
     ensures { λ r. ⌜ r ≡ sumBelow ids (weightAt word (now (rates .entry))) ⌝ }
 {
     let mut left = word;
     let mut sum: u64 = 0;
     while left != 0 {
         let at = marks::first(left);
-        sum += wide(rates[at as usize]);
+        sum += tables::wide(rates[at as usize]);
         left = marks::rest(left);
     }
     sum
 }
 
 // The first id at which the running sum of rates exceeds the target; 64 if it never does.
-pub fn pick(word: u64, rates: &[u32; 384], target: u32) -> u32
+pub fn pick(word: u64, rates: &[u32; CLIENTS], target: u32) -> u32
     ensures { λ r. ⌜ r ≡ drawnAt (weightAt word (now (rates .entry))) target ⌝ }
 {
     let limit = target as u64;
@@ -39,7 +31,7 @@ pub fn pick(word: u64, rates: &[u32; 384], target: u32) -> u32
     let mut reached: u64 = 0;
     while left != 0 {
         let id = marks::first(left);
-        reached += wide(rates[id as usize]);
+        reached += tables::wide(rates[id as usize]);
         if limit < reached {
             return id;
         }

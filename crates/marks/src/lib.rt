@@ -1,5 +1,7 @@
 // A word of 64 marks, one bit for each id: which ids have something. The marks say at once whether
 // there is any, and are gone through by rising id: the first one, then the rest without it.
+// A shift by as many bits as there are ids, or more, is refused, so each shift is under a test.
+use definitions::IDS;
 ghost use mathlib.Core.Path.{_≡_};
 ghost use mathlib.Core.Bool.{not, _&&_, _||_};
 ghost use Prim.Native.Nat.{ℕ, _<_};
@@ -8,9 +10,6 @@ ghost use Rattle.definitions.specs.Sizes.{ids};
 ghost use Rattle.definitions.specs.Draw.{firstFrom};
 ghost use Rattle.definitions.specs.Tick.{anyBelow};
 ghost use Rattle.marks.specs.Marks.{marked};
-
-// How many ids there are: a shift by as much or more is refused, so each shift is under a test.
-const IDS: u32 = 64;
 
 // Whether an id has a mark. No id from 64 on has one.
 pub fn has(word: u64, id: u32) -> bool

@@ -1,4 +1,5 @@
 // Where a core begins: unopened, and opened with empty tables.
+use definitions::SHARES;
 use generator::Generator;
 use order::END;
 use order::LINKS;
@@ -18,8 +19,6 @@ ghost use Rattle.tables.specs.Meaning.{coreOf};
 ghost use Rattle.tables.specs.Invariant.{Valid};
 ghost use Rattle.tables.specs.Numbers.{firstFailed};
 ghost use Rattle.tables.specs.Promise.{Meets};
-
-const THRESHOLD_LIMIT: u32 = 1024;
 
 // The control of a core before any open, whatever its tables hold.
 pub fn unopened() -> Control
@@ -60,7 +59,7 @@ fn open_number(threshold: u32, discipline: u32, seed: u32) -> u32
     if threshold < 1 {
         return 1;
     }
-    if THRESHOLD_LIMIT < threshold {
+    if SHARES < threshold {
         return 1;
     }
     if 1 < discipline {

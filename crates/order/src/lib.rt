@@ -1,17 +1,19 @@
 // The order in which the waiting packets were accepted: a circular doubly linked list over the 2,048 places with one
 // sentinel, in one table that is lent. Every operation costs the same however many packets wait, and writes no packet.
+use definitions::IDS;
+use definitions::PLACES;
 ghost use mathlib.Core.Path.{_≡_};
 ghost use mathlib.Core.List.{List, [], _∷_, _++_};
 ghost use Prim.Native.Nat.{ℕ, _≤_, _<_};
 ghost use Rattle.order.specs.Order.{sentinel, Sound, Absent, Ordered, frontOf, joined};
 
 // The sentinel, which follows the last place and stands before the first.
-pub const END: u32 = 2048;
+pub const END: u32 = IDS * PLACES;
 // The next node of a is at a, and the previous one at NODES + a.
-const NODES: usize = 2049;
+const NODES: usize = END as usize + 1;
 
 // The entries of the table: two for each node.
-pub const LINKS: usize = 4098;
+pub const LINKS: usize = 2 * NODES;
 // The sentinel's entries: its next node is the first place, its previous one the last.
 const FIRST: usize = END as usize;
 

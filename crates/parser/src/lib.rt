@@ -1,6 +1,8 @@
 // Reads one line of the script: any bytes, any number of them. The grammar that it reads by is `parsed` of crate grammar.
 // One matcher walks a template in which # stands for a number; a form is a template and the call that its numbers make.
 use definitions::Call;
+use definitions::INDIFFERENT;
+use definitions::PRIVATE;
 use definitions::Packet;
 use grammar::Line;
 ghost use mathlib.Core.Path.{_≡_};
@@ -34,11 +36,6 @@ const LEAVE_OR_LOAD: u64 = 108;
 const ARRIVE: u64 = 97;
 
 const TICK: u64 = 116;
-
-// The types of a client, as a call has them.
-const PRIVATE: u32 = 2;
-
-const INDIFFERENT: u32 = 1;
 
 // A number of a line: whether it is spelled right, its value, where any above the limit is one above it, and what follows it.
 struct Numeral {

@@ -1,5 +1,11 @@
 // Setting a client up and taking it away: join, change and leave. All three put a new client in an id's place, where nobody
 // is the client of no type; only a change that keeps the type keeps the client.
+use definitions::BURST_LIMIT;
+use definitions::IDS;
+use definitions::INDIFFERENT;
+use definitions::PLACES;
+use definitions::PRIVATE;
+use definitions::SHARES;
 use order::LINKS;
 use tables::Answered;
 use tables::BURST;
@@ -7,11 +13,8 @@ use tables::CLIENTS;
 use tables::COUNT;
 use tables::Control;
 use tables::HEAD;
-use tables::IDS;
 use tables::LEVEL;
-use tables::PLACES;
 use tables::POOL;
-use tables::SHARES;
 use tables::STORE;
 ghost use mathlib.Core.Path.{_≡_};
 ghost use mathlib.Core.Bool.{true};
@@ -31,14 +34,8 @@ ghost use Rattle.tables.specs.Promise.{Meets};
 ghost use Rattle.settings.specs.Writes.{Room, withTerms, retunedClients, withClient, traded, Remarked, Recast};
 ghost use Rattle.settings.specs.Writes.{Ready, Withdrawn, Withdraws};
 
-// The types of a client. A client of neither type, with rate and burst 0, is nobody.
-const INDIFFERENT: u32 = 1;
-
-const PRIVATE: u32 = 2;
-
+// A client of neither type, with rate and burst 0, is nobody.
 const NOBODY: u32 = 0;
-
-const BURST_LIMIT: u32 = 64;
 
 // Where a client's rate stands in the clients' table.
 const RATE: u32 = 0;

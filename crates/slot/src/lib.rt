@@ -1,6 +1,10 @@
 // One slot: whose it is, what that client sends, and the refill of every bucket (paper 01, "Tick is one slot").
 use definitions::Answer;
+use definitions::FIRST_COME;
+use definitions::IDS;
+use definitions::LONGEST;
 use definitions::Outcome;
+use definitions::PLACES;
 use definitions::Packet;
 use generator::Generator;
 use order::LINKS;
@@ -11,7 +15,6 @@ use tables::COUNT;
 use tables::Control;
 use tables::HEAD;
 use tables::LEVEL;
-use tables::PLACES;
 use tables::POOL;
 use tables::STORE;
 ghost use mathlib.Core.Path.{_≡_};
@@ -34,27 +37,21 @@ ghost use Rattle.slot.specs.Sends.{Settled, popped, Unlinked, Sender, Sp
 ghost use Rattle.slot.specs.Slots.{Due, Done};
 ghost use Rattle.slot.specs.Buckets.{Refillable, Refilled};
 
-// The discipline by which the packet that was accepted earliest goes first.
-const FIRST_COME: u32 = 0;
-
 // From how many indifferent ids on all ids are gone through.
 const DENSE: u32 = 12;
 
 // How many ids there are, and where the bursts and the levels begin in the clients' table.
-const EACH: usize = 64;
+const EACH: usize = IDS as usize;
 
-const FIRST_BURST: usize = 64;
+const FIRST_BURST: usize = BURST as usize;
 
-const FIRST_LEVEL: usize = 128;
+const FIRST_LEVEL: usize = LEVEL as usize;
 
 // The number of the rule by which a slot has nobody.
 const NOBODY: u32 = 3;
 
 // What a tick of an unopened core is refused with.
 const UNOPENED: u32 = 19;
-
-// A private packet is padded to the longest.
-const LONGEST: u32 = 1518;
 
 // Whose slot it is: by which of the paper's rules, whose id, and the generator after the pick.
 struct Choice {

@@ -1,5 +1,7 @@
 // The tables of the core and what goes beside them by value: the layer under the calls.
 use definitions::Answer;
+use definitions::IDS;
+use definitions::PLACES;
 use generator::Generator;
 ghost use mathlib.Core.Path.{_≡_};
 ghost use Prim.Native.Nat.{_<_, _^_};
@@ -26,29 +28,21 @@ pub struct Answered {
     pub answer: Answer,
 }
 
-// How many ids there are, and how many places each has.
-pub const IDS: u32 = 64;
-
-pub const PLACES: u32 = 32;
-
 // The clients' table: six numbers for each id, one kind of number after the other.
-pub const CLIENTS: usize = 384;
+pub const CLIENTS: usize = 6 * IDS as usize;
 
-pub const BURST: u32 = 64;
+pub const BURST: u32 = IDS;
 
-pub const LEVEL: u32 = 128;
+pub const LEVEL: u32 = 2 * IDS;
 
-pub const POOL: u32 = 192;
+pub const POOL: u32 = 3 * IDS;
 
-pub const HEAD: u32 = 256;
+pub const HEAD: u32 = 4 * IDS;
 
-pub const COUNT: u32 = 320;
+pub const COUNT: u32 = 5 * IDS;
 
-// The places of the waiting packets, 32 for each id.
-pub const STORE: usize = 2048;
-
-// What a packet costs a bucket, and how many of it a burst of one is; the link has as many shares.
-pub const SHARES: u32 = 1024;
+// The places of the waiting packets.
+pub const STORE: usize = (IDS * PLACES) as usize;
 
 pub fn refused(control: Control, number: u32) -> Answered
     ensures { λ r. ⌜ r ≡ record { control = control; answer = Answer.Refused number } ⌝ }

@@ -1,16 +1,19 @@
 // What tenants and their neighbours send: dummies for a private pool, and packets.
+use definitions::IDS;
+use definitions::LONGEST;
+use definitions::PLACES;
+use definitions::POOL_LIMIT;
 use definitions::Packet;
+use definitions::SHARES;
+use definitions::SHORTEST;
 use order::LINKS;
 use tables::Answered;
 use tables::CLIENTS;
 use tables::COUNT;
 use tables::Control;
 use tables::HEAD;
-use tables::IDS;
 use tables::LEVEL;
-use tables::PLACES;
 use tables::POOL;
-use tables::SHARES;
 use tables::STORE;
 ghost use mathlib.Core.Path.{_≡_};
 ghost use mathlib.Core.List.{List};
@@ -23,13 +26,6 @@ ghost use Rattle.tables.specs.Tables.{tables, levelAt, headAt, countAt};
 ghost use Rattle.tables.specs.Invariant.{Valid};
 ghost use Rattle.tables.specs.Numbers.{refusal};
 ghost use Rattle.tables.specs.Promise.{Meets};
-
-const POOL_LIMIT: u64 = 255;
-
-// A packet's length in bytes.
-const SHORTEST: u32 = 64;
-
-const LONGEST: u32 = 1518;
 
 // The number that a load is refused with: 19, 4, 5, 11, 12.
 fn load_number(control: Control, clients: &[u32; CLIENTS], id: u32, dummies: u32) -> u32
