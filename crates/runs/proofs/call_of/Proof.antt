@@ -1,0 +1,84 @@
+-- `runs::call_of` meets its contract: at each return the tests that led there say which row of the table holds. Assumes nothing.
+use borrow.Author.Needs.{needs}
+use borrow.Author.Tests.{eq-eqb, ne-eqb, le-leb, lt-leb}
+use Rattle.runs.specs.Calls.{callAt, callOf}
+use Rattle.runs.proofs.call_of.Statement.{statement}
+use Rattle.runs.proofs.call_of.Tie as tie
+
+add-t12 : tie.Need-add-t12
+add-t12 c = search needs
+
+returns : tie.Need-returns
+unfolding callOf callAt
+returns c = rw (eq-eqb _ _ (c .if1 .taken))
+
+id-of-requires : tie.Need-id-of-requires
+id-of-requires c κs = search needs
+
+burst-of-requires : tie.Need-burst-of-requires
+burst-of-requires c κs = search needs
+
+returns-2 : tie.Need-returns-2
+unfolding callOf callAt
+returns-2 c =
+    let b = c .before in
+    rw (
+      b .before .id-of .ensures,
+      b .burst-of .ensures,
+      ne-eqb _ _ (b .before .before .if1 .left),
+      le-leb _ _ (c .if2 .taken),
+    )
+
+returns-3 : tie.Need-returns-3
+unfolding callOf callAt
+returns-3 c =
+    let b = c .before .before in
+    rw (
+      b .before .id-of .ensures,
+      b .burst-of .ensures,
+      ne-eqb _ _ (b .before .before .if1 .left),
+      lt-leb _ _ (c .before .if2 .left),
+      le-leb _ _ (c .if3 .taken),
+    )
+
+returns-4 : tie.Need-returns-4
+unfolding callOf callAt
+returns-4 c =
+    let b = c .before .before .before in
+    rw (
+      b .before .id-of .ensures,
+      ne-eqb _ _ (b .before .before .if1 .left),
+      lt-leb _ _ (c .before .before .if2 .left),
+      lt-leb _ _ (c .before .if3 .left),
+      le-leb _ _ (c .if4 .taken),
+    )
+
+traffic-of-requires : tie.Need-traffic-of-requires
+traffic-of-requires c κs = search needs
+
+returns-5 : tie.Need-returns-5
+unfolding callOf callAt
+returns-5 c =
+    let b = c .before .before .before .before in
+    rw (
+      c .traffic-of .ensures,
+      b .before .id-of .ensures,
+      ne-eqb _ _ (b .before .before .if1 .left),
+      lt-leb _ _ (c .before .before .before .if2 .left),
+      lt-leb _ _ (c .before .before .if3 .left),
+      lt-leb _ _ (c .before .if4 .left),
+    )
+
+pub call-of-spec : {M : Type 1} → statement M
+call-of-spec =
+    tie.close
+    (tie.spec
+    add-t12
+    returns
+    id-of-requires
+    burst-of-requires
+    returns-2
+    returns-3
+    returns-4
+    traffic-of-requires
+    returns-5)

@@ -1,0 +1,42 @@
+-- The calls of a long run (the page "Long runs", "The calls"). "Each call takes four draws, a, b, c and d, in this order,
+-- whatever call it is."
+use Prim.Native.Nat.{ℕ, _+_, _/_, _%_}
+use mathlib.Core.Bool.{cond}
+use lib.Dec.{eqb, leb}
+use Rattle.definitions.specs.declared.Packet.{Packet}
+use Rattle.definitions.specs.declared.Call.{Call}
+use Rattle.definitions.specs.declared.Call.the-variants.{Open, Join, Change, Leave, Load, Arrive, Tick}
+
+-- "b mod 66 if b / 65536 is odd, b mod 8 if it is even"
+unfoldable pub idOf : ℕ → ℕ
+idOf b = cond (eqb (b / 65536 % 2) 1) (b % 66) (b % 8)
+
+-- "A type is c mod 3. A rate is d mod 33."
+abbrev pub typeOf : ℕ → ℕ
+typeOf c = c % 3
+
+abbrev pub rateOf : ℕ → ℕ
+rateOf d = d % 33
+
+-- "(d / 64) mod 66 for type 1; for any other type it is ((d / 64) mod 66) / 65"
+unfoldable pub burstOf : ℕ → ℕ → ℕ
+burstOf type d = cond (eqb type 1) (d / 64 % 66) (d / 64 % 66 / 65)
+
+-- "a packet with handle d and length 63 + c mod 1457"
+abbrev pub packetOf : ℕ → ℕ → Packet
+packetOf c d = record { handle = d; length = 63 + c % 1457 }
+
+-- the page's table, by the last k of each row: the rows of load, arrive and tick, and then the whole
+unfoldable pub trafficAt : ℕ → ℕ → ℕ → ℕ → Call
+trafficAt k id c d = cond (leb k 103) (Load id (c % 130)) (cond (leb k 679) (Arrive id (packetOf c d)) Tick)
+
+unfoldable pub callAt : ℕ → ℕ → ℕ → ℕ → Call
+callAt k b c d =
+    cond (eqb k 0) (Open (1000 + b % 26) (c % 3) (d % 65536))
+    (cond (leb k 24) (Join (idOf b) (typeOf c) (rateOf d) (burstOf (typeOf c) d))
+    (cond (leb k 34) (Change (idOf b) (typeOf c) (rateOf d) (burstOf (typeOf c) d))
+    (cond (leb k 39) (Leave (idOf b)) (trafficAt k (idOf b) c d))))
+
+-- "With k = a mod 1024"
+unfoldable pub callOf : ℕ → ℕ → ℕ → ℕ → Call
+callOf a b c d = callAt (a % 1024) b c d

@@ -1,0 +1,6 @@
+-- Long runs (the page of that name): the calls that a seed makes, the check of their answers, and the run of both; and what the
+-- code keeps of it.
+pub mod Calls
+pub mod Check
+pub mod LongRun
+pub mod Stands

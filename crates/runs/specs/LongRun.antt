@@ -1,0 +1,50 @@
+-- A long run (the page "Long runs"): it "makes calls from a seed and keeps a running check of the answers".
+use Prim.Native.Nat.{ℕ, zero, suc}
+use Rattle.definitions.specs.declared.Call.{Call}
+use Rattle.definitions.specs.Generator.{stepped}
+use Rattle.definitions.specs.State.{Core, unopened}
+use Rattle.definitions.specs.Checks.{Result}
+use Rattle.definitions.specs.Core.{step}
+use Rattle.runs.specs.Calls.{callOf}
+use Rattle.runs.specs.Check.{checked}
+
+-- what a long run has between two calls: the core, the value of the maker of calls, and the check
+pub record LongRun : Type 0 where
+  pub core : Core
+  pub value : ℕ
+  pub check : ℕ
+
+-- the value "at first the seed", the check "at first 0"; "The first call is made on an unopened core."
+unfoldable pub begun : ℕ → LongRun
+begun seed = record { core = unopened; value = seed; check = 0 }
+
+-- the n-th draw: it "steps it by xorshift32 .. and gives the new v"
+unfoldable pub draw : ℕ → ℕ → ℕ
+draw zero v = v
+draw (suc n) v = stepped (draw n v)
+
+unfoldable pub callFrom : ℕ → Call
+callFrom v = callOf (draw 1 v) (draw 2 v) (draw 3 v) (draw 4 v)
+
+-- a call's answer goes into the check
+abbrev pub taken : LongRun → Result → LongRun
+taken run result = record {
+  core = result .core;
+  value = draw 4 (run .value);
+  check = checked (run .check) (result .answer);
+}
+
+-- one call more, and so many
+unfoldable pub next : LongRun → LongRun
+next run = taken run (step (run .core) (callFrom (run .value)))
+
+unfoldable pub further : ℕ → LongRun → LongRun
+further zero run = run
+further (suc n) run = next (further n run)
+
+unfoldable pub after : ℕ → ℕ → LongRun
+after seed calls = further calls (begun seed)
+
+-- "A block is 1,000,000 calls."
+abbrev pub block : ℕ
+block = 1000000

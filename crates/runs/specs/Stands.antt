@@ -1,0 +1,21 @@
+-- What the code's progress and tables stand for, and what its functions promise of it.
+use Prim.Native.Nat.{ℕ}
+use mathlib.Core.Path.{_≡_}
+use Rattle.tables.specs.Tables.{Tables}
+use Rattle.tables.specs.Meaning.{coreOf}
+use Rattle.tables.specs.Invariant.{Valid}
+use Rattle.runs.specs.declared.Progress.{Progress}
+use Rattle.runs.specs.LongRun.{LongRun, begun, further}
+
+abbrev pub runOf : Progress → Tables → LongRun
+runOf p t = record { core = coreOf (p .control) t; value = p .maker .value; check = p .check }
+
+-- before the first call from a seed, whatever the tables hold
+pub record Begins (seed : ℕ) (p : Progress) : Type 0 where
+  pub run : (t : Tables) → runOf p t ≡ begun seed
+  pub valid : (t : Tables) → Valid (p .control) t
+
+-- so many calls on progress p and tables t leave q and u
+pub record Goes (calls : ℕ) (p : Progress) (t : Tables) (q : Progress) (u : Tables) : Type 0 where
+  pub run : runOf q u ≡ further calls (runOf p t)
+  pub valid : Valid (q .control) u

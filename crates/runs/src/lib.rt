@@ -1,0 +1,221 @@
+// Long runs: calls made from a seed, and a running check of their answers.
+use definitions::Answer;
+use definitions::Call;
+use definitions::Outcome;
+use definitions::Packet;
+use generator::Generator;
+use order::LINKS;
+use tables::CLIENTS;
+use tables::Control;
+use tables::STORE;
+ghost use mathlib.Core.Path.{_≡_};
+ghost use Rattle.tables.specs.Tables.{tables};
+ghost use Rattle.tables.specs.Invariant.{Valid};
+ghost use Rattle.runs.specs.Calls.{idOf, burstOf, trafficAt, callOf};
+ghost use Rattle.runs.specs.Check.{mix, checked};
+ghost use Rattle.runs.specs.LongRun.{after};
+ghost use Rattle.runs.specs.Stands.{Begins, Goes};
+
+// The type of a client that has a burst.
+const INDIFFERENT: u32 = 1;
+
+// How far a long run has come, beside its tables: the core's control, the maker of calls, and the check.
+pub struct Progress {
+    pub control: Control,
+    pub maker: Generator,
+    pub check: u32,
+}
+
+fn id_of(b: u32) -> u32
+    ensures { λ r. ⌜ r ≡ idOf b ⌝ }
+{
+    if b / 65536 % 2 == 1 { b % 66 } else { b % 8 }
+}
+
+fn burst_of(kind: u32, d: u32) -> u32
+    ensures { λ r. ⌜ r ≡ burstOf kind d ⌝ }
+{
+    let burst = d / 64 % 66;
+    if kind == INDIFFERENT {
+        burst
+    } else {
+        burst / 65
+    }
+}
+
+// A load, an arrival or a tick.
+fn traffic_of(k: u32, id: u32, c: u32, d: u32) -> Call
+    ensures { λ r. ⌜ r ≡ trafficAt k id c d ⌝ }
+{
+    if k <= 103 {
+        return Call::Load {
+            id,
+            dummies: c % 130,
+        };
+    }
+    if k <= 679 {
+        let packet = Packet {
+            handle: d,
+            length: 63 + c % 1457,
+        };
+        return Call::Arrive { id, packet };
+    }
+    Call::Tick
+}
+
+// The call that four draws make.
+pub fn call_of(a: u32, b: u32, c: u32, d: u32) -> Call
+    ensures { λ r. ⌜ r ≡ callOf a b c d ⌝ }
+{
+    let k = a % 1024;
+    if k == 0 {
+        return Call::Open {
+            threshold: 1000 + b % 26,
+            discipline: c % 3,
+            seed: d % 65536,
+        };
+    }
+    let id = id_of(b);
+    let kind = c % 3;
+    let rate = d % 33;
+    let burst = burst_of(kind, d);
+    if k <= 24 {
+        return Call::Join {
+            id,
+            kind,
+            rate,
+            burst,
+        };
+    }
+    if k <= 34 {
+        return Call::Change {
+            id,
+            kind,
+            rate,
+            burst,
+        };
+    }
+    if k <= 39 {
+        return Call::Leave { id };
+    }
+    traffic_of(k, id, c, d)
+}
+
+fn mix(h: u32, w: u32) -> u32
+    ensures { λ r. ⌜ r ≡ mix h w ⌝ }
+{
+    Generator::new(std::num::wrapping_add_u32(h, w))
+        .step()
+        .value
+}
+
+fn check_slot(h: u32, outcome: Outcome) -> u32
+    ensures { λ r. ⌜ r ≡ checked h (Answer.Slot outcome) ⌝ }
+{
+    match outcome {
+        Outcome::Real {
+            id,
+            packet,
+            padding,
+        } => {
+            let named = mix(mix(h, 3), id);
+            mix(mix(mix(named, packet.handle), packet.length), padding)
+        }
+        Outcome::Dummy { id } => mix(mix(h, 4), id),
+        Outcome::Idle { id } => mix(mix(h, 5), id),
+        Outcome::None => mix(h, 6),
+    }
+}
+
+// The check with an answer's words mixed in.
+pub fn check(h: u32, answer: Answer) -> u32
+    ensures { λ r. ⌜ r ≡ checked h answer ⌝ }
+{
+    match answer {
+        Answer::Accepted => mix(h, 1),
+        Answer::Refused { number } => mix(mix(h, 2), number),
+        Answer::Slot { outcome } => check_slot(h, outcome),
+    }
+}
+
+// Before the first call.
+pub fn begin(seed: u32) -> Progress
+    ensures { λ r. ⌜ Begins seed r ⌝ }
+{
+    Progress {
+        control: opening::unopened(),
+        maker: Generator::new(seed),
+        check: 0,
+    }
+}
+
+// Makes one call.
+fn call_once(
+    progress: Progress,
+    clients: &mut [u32; CLIENTS],
+    handles: &mut [u32; STORE],
+    lengths: &mut [u32; STORE],
+    links: &mut [u32; LINKS],
+) -> Progress
+    requires { ⌜ Valid (progress .control) (tables (now clients) (now handles) (now lengths) (now links)) ⌝ }
+    ensures { λ r. ⌜ Goes 1 progress
+        (tables (now (clients .entry)) (now (handles .entry)) (now (lengths .entry)) (now (links .entry))) r
+        (tables (now (clients .exit)) (now (handles .exit)) (now (lengths .exit)) (now (links .exit))) ⌝ }
+{
+    let maker = progress.maker;
+    let a = maker.step();
+    let b = a.step();
+    let c = b.step();
+    let d = c.step();
+    let call = call_of(a.value, b.value, c.value, d.value);
+    let answered = script::perform(progress.control, clients, handles, lengths, links, call);
+    let control = answered.control;
+    let answer = answered.answer;
+    Progress {
+        control,
+        maker: d,
+        check: check(progress.check, answer),
+    }
+}
+
+// Makes so many calls.
+pub fn calls(
+    progress: Progress,
+    clients: &mut [u32; CLIENTS],
+    handles: &mut [u32; STORE],
+    lengths: &mut [u32; STORE],
+    links: &mut [u32; LINKS],
+    count: u32,
+) -> Progress
+    requires { ⌜ Valid (progress .control) (tables (now clients) (now handles) (now lengths) (now links)) ⌝ }
+    ensures { λ r. ⌜ Goes count progress
+        (tables (now (clients .entry)) (now (handles .entry)) (now (lengths .entry)) (now (links .entry))) r
+        (tables (now (clients .exit)) (now (handles .exit)) (now (lengths .exit)) (now (links .exit))) ⌝ }
+{
+    let mut at = progress;
+    let mut made: u32 = 0;
+    while made < count {
+        at = call_once(at, clients, handles, lengths, links);
+        made += 1;
+    }
+    at
+}
+
+// The check after so many calls from a seed.
+pub fn check_after(seed: u32, count: u32) -> u32
+    ensures { λ r. ⌜ r ≡ after seed count .check ⌝ }
+{
+    let mut clients: [u32; CLIENTS] = [0; CLIENTS];
+    let mut handles: [u32; STORE] = [0; STORE];
+    let mut lengths: [u32; STORE] = [0; STORE];
+    let mut links: [u32; LINKS] = [0; LINKS];
+    let last = calls(
+        begin(seed),
+        &mut clients,
+        &mut handles,
+        &mut lengths,
+        &mut links,
+        count,
+    );
+    last.check
+}
