@@ -12,6 +12,7 @@ ghost use Rattle.grammar.specs.Templates.{matched};
 ghost use Rattle.grammar.specs.Grammar.{rules, parsedBy, parsed};
 ghost use Rattle.parser.specs.Numbers.{byteOf, digitOf, cap, spelled, Spells};
 ghost use Rattle.parser.specs.Readings.{misfit, add, readAs, judged};
+ghost use Rattle.parser.specs.Words.{wordOf};
 
 // What stands where a line has no byte, and where it has no digit.
 const NO_BYTE: u64 = 256;
@@ -42,6 +43,12 @@ struct Numeral {
     is: bool,
     value: u64,
     next: usize,
+}
+
+// A word that is one number, or any other.
+pub enum Word {
+    Number { value: u32 },
+    Other,
 }
 
 // What a template finds: whether the line has its shape, whether a number is too large, and the first three numbers.
@@ -119,6 +126,25 @@ fn read_numeral(line: &[u8], from: usize) -> Numeral
         is,
         value,
         next: at,
+    }
+}
+
+// The number that a word is, where it is one and nothing else.
+pub fn number(word: &[u8]) -> Word
+    ensures { λ r. ⌜ r ≡ wordOf (now (word .entry)) ⌝ }
+{
+    let numeral = read_numeral(word, 0);
+    if !numeral.is {
+        return Word::Other;
+    }
+    if numeral.next < word.len() {
+        return Word::Other;
+    }
+    if LIMIT < numeral.value {
+        return Word::Other;
+    }
+    Word::Number {
+        value: numeral.value as u32,
     }
 }
 

@@ -1,0 +1,100 @@
+// Makes long runs of calls and prints the check of their answers: the first argument is the seed, the second how many blocks.
+// What is called and what is checked is decided in `runs`.
+use libc::STDERR_FILENO;
+use libc::STDOUT_FILENO;
+use order::LINKS;
+use parser::Word;
+use tables::CLIENTS;
+use tables::STORE;
+ghost use mathlib.Core.Path.{_≡_};
+ghost use Prim.Native.Nat.{_*_};
+ghost use Rattle.runs.specs.LongRun.{block, after};
+
+// How many calls a block has.
+const BLOCK: u32 = 1000000;
+
+// The program's name, the seed and the number of blocks.
+const ARGUMENTS: usize = 3;
+
+// More than the digits of any number that is taken.
+const ROOM: usize = 16;
+
+fn calls_in(blocks: u32) -> u64
+    ensures { λ r. ⌜ r ≡ blocks * block ⌝ }
+{
+    tables::wide(blocks) * (BLOCK as u64)
+}
+
+// Prints the line of the last of so many blocks. The seed stands here for the contract: what is printed is its check.
+fn tell(seed: u32, blocks: u32, check: u32)
+    requires { ⌜ check ≡ after seed (blocks * block) .check ⌝ }
+{
+    io::write_all(STDOUT_FILENO, b"(calls ");
+    io::print_decimal(STDOUT_FILENO, calls_in(blocks));
+    io::write_all(STDOUT_FILENO, b" check ");
+    io::print_decimal(STDOUT_FILENO, tables::wide(check));
+    io::write_all(STDOUT_FILENO, b")\n");
+}
+
+// So many blocks from a seed, with a line after each.
+fn blocks(
+    seed: u32,
+    count: u32,
+    clients: &mut [u32; CLIENTS],
+    handles: &mut [u32; STORE],
+    lengths: &mut [u32; STORE],
+    links: &mut [u32; LINKS],
+) {
+    let mut at = runs::begin(seed);
+    let mut done: u32 = 0;
+    while done < count {
+        at = runs::calls(at, clients, handles, lengths, links, BLOCK);
+        done += 1;
+        tell(seed, done, at.check);
+    }
+}
+
+// A run on tables of its own.
+fn run(seed: u32, count: u32) {
+    let mut clients: [u32; CLIENTS] = [0; CLIENTS];
+    let mut handles: [u32; STORE] = [0; STORE];
+    let mut lengths: [u32; STORE] = [0; STORE];
+    let mut links: [u32; LINKS] = [0; LINKS];
+    blocks(
+        seed,
+        count,
+        &mut clients,
+        &mut handles,
+        &mut lengths,
+        &mut links,
+    );
+}
+
+// The number that an argument is.
+fn argument(i: usize) -> Word {
+    let mut room = [0u8; ROOM];
+    let length = os::arg(i, &mut room);
+    parser::number(&room[..length])
+}
+
+fn usage() {
+    io::write_all(STDERR_FILENO, b"usage: longrun SEED BLOCKS\n");
+}
+
+fn main() {
+    if os::arg_count() != ARGUMENTS {
+        usage();
+        return;
+    }
+    let first = argument(1);
+    let Word::Number { value: seed } = first else {
+        usage();
+        return;
+    };
+    let second = argument(2);
+    let Word::Number { value: count } = second else {
+        usage();
+        return;
+    };
+    run(seed, count);
+}
