@@ -27,7 +27,7 @@ impl Maker {
         let b = self.draw();
         let c = self.draw();
         let d = self.draw();
-        call(a % 1024, b, c, d)
+        call(a % 4096, b, c, d)
     }
 }
 
@@ -50,19 +50,19 @@ fn burst_of(kind: u32, d: u32) -> u32 {
     }
 }
 
-/// The table of calls, with k = a mod 1024.
+/// The table of calls, with k = a mod 4096.
 fn call(k: u32, b: u32, c: u32, d: u32) -> Call {
     let id = id_of(b);
     let kind = c % 3; // "A type is c mod 3."
     let rate = d % 33; // "A rate is d mod 33."
     let burst = burst_of(kind, d);
     match k {
-        0 => Call::Open { threshold: 1000 + b % 26, discipline: c % 3, seed: d % 65536 },
-        1..=24 => Call::Join { id, kind, rate, burst },
-        25..=34 => Call::Change { id, kind, rate, burst },
-        35..=39 => Call::Leave { id },
-        40..=103 => Call::Load { id, count: c % 130 },
-        104..=679 => Call::Arrive { id, handle: d, length: 63 + c % 1457 },
+        0 => Call::Open { threshold: b % 1026, discipline: c % 3, seed: d % 16 },
+        1..=160 => Call::Join { id, kind, rate, burst },
+        161..=240 => Call::Change { id, kind, rate, burst },
+        241..=260 => Call::Leave { id },
+        261..=516 => Call::Load { id, count: c % 130 },
+        517..=2720 => Call::Arrive { id, handle: d, length: 63 + c % 1457 },
         _ => Call::Tick,
     }
 }

@@ -28,15 +28,15 @@ packetOf c d = record { handle = d; length = 63 + c % 1457 }
 
 -- the page's table, by the last k of each row: the rows of load, arrive and tick, and then the whole
 unfoldable pub trafficAt : ℕ → ℕ → ℕ → ℕ → Call
-trafficAt k id c d = cond (leb k 103) (Load id (c % 130)) (cond (leb k 679) (Arrive id (packetOf c d)) Tick)
+trafficAt k id c d = cond (leb k 516) (Load id (c % 130)) (cond (leb k 2720) (Arrive id (packetOf c d)) Tick)
 
 unfoldable pub callAt : ℕ → ℕ → ℕ → ℕ → Call
 callAt k b c d =
-    cond (eqb k 0) (Open (1000 + b % 26) (c % 3) (d % 65536))
-    (cond (leb k 24) (Join (idOf b) (typeOf c) (rateOf d) (burstOf (typeOf c) d))
-    (cond (leb k 34) (Change (idOf b) (typeOf c) (rateOf d) (burstOf (typeOf c) d))
-    (cond (leb k 39) (Leave (idOf b)) (trafficAt k (idOf b) c d))))
+    cond (eqb k 0) (Open (b % 1026) (c % 3) (d % 16))
+    (cond (leb k 160) (Join (idOf b) (typeOf c) (rateOf d) (burstOf (typeOf c) d))
+    (cond (leb k 240) (Change (idOf b) (typeOf c) (rateOf d) (burstOf (typeOf c) d))
+    (cond (leb k 260) (Leave (idOf b)) (trafficAt k (idOf b) c d))))
 
--- "With k = a mod 1024"
+-- "With k = a mod 4096"
 unfoldable pub callOf : ℕ → ℕ → ℕ → ℕ → Call
-callOf a b c d = callAt (a % 1024) b c d
+callOf a b c d = callAt (a % 4096) b c d

@@ -1,6 +1,7 @@
 // Long runs: calls made from a seed, and a running check of their answers.
 use definitions::Answer;
 use definitions::Call;
+use definitions::INDIFFERENT;
 use definitions::Outcome;
 use definitions::Packet;
 use generator::Generator;
@@ -15,9 +16,6 @@ ghost use Rattle.runs.specs.Calls.{idOf, burstOf, trafficAt, callOf};
 ghost use Rattle.runs.specs.Check.{mix, checked};
 ghost use Rattle.runs.specs.LongRun.{after};
 ghost use Rattle.runs.specs.Stands.{Begins, Goes};
-
-// The type of a client that has a burst.
-const INDIFFERENT: u32 = 1;
 
 // How far a long run has come, beside its tables: the core's control, the maker of calls, and the check.
 pub struct Progress {
@@ -47,13 +45,13 @@ fn burst_of(kind: u32, d: u32) -> u32
 fn traffic_of(k: u32, id: u32, c: u32, d: u32) -> Call
     ensures { λ r. ⌜ r ≡ trafficAt k id c d ⌝ }
 {
-    if k <= 103 {
+    if k <= 516 {
         return Call::Load {
             id,
             dummies: c % 130,
         };
     }
-    if k <= 679 {
+    if k <= 2720 {
         let packet = Packet {
             handle: d,
             length: 63 + c % 1457,
@@ -67,19 +65,19 @@ fn traffic_of(k: u32, id: u32, c: u32, d: u32) -> Call
 pub fn call_of(a: u32, b: u32, c: u32, d: u32) -> Call
     ensures { λ r. ⌜ r ≡ callOf a b c d ⌝ }
 {
-    let k = a % 1024;
+    let k = a % 4096;
     if k == 0 {
         return Call::Open {
-            threshold: 1000 + b % 26,
+            threshold: b % 1026,
             discipline: c % 3,
-            seed: d % 65536,
+            seed: d % 16,
         };
     }
     let id = id_of(b);
     let kind = c % 3;
     let rate = d % 33;
     let burst = burst_of(kind, d);
-    if k <= 24 {
+    if k <= 160 {
         return Call::Join {
             id,
             kind,
@@ -87,7 +85,7 @@ pub fn call_of(a: u32, b: u32, c: u32, d: u32) -> Call
             burst,
         };
     }
-    if k <= 34 {
+    if k <= 240 {
         return Call::Change {
             id,
             kind,
@@ -95,7 +93,7 @@ pub fn call_of(a: u32, b: u32, c: u32, d: u32) -> Call
             burst,
         };
     }
-    if k <= 39 {
+    if k <= 260 {
         return Call::Leave { id };
     }
     traffic_of(k, id, c, d)

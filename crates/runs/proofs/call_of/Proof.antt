@@ -5,9 +5,6 @@ use Rattle.runs.specs.Calls.{callAt, callOf}
 use Rattle.runs.proofs.call_of.Statement.{statement}
 use Rattle.runs.proofs.call_of.Tie as tie
 
-add-t12 : tie.Need-add-t12
-add-t12 c = search needs
-
 returns : tie.Need-returns
 unfolding callOf callAt
 returns c = rw (eq-eqb _ _ (c .if1 .taken))
@@ -73,7 +70,6 @@ pub call-of-spec : {M : Type 1} → statement M
 call-of-spec =
     tie.close
     (tie.spec
-    add-t12
     returns
     id-of-requires
     burst-of-requires
