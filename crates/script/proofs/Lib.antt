@@ -1,4 +1,3 @@
-pub mod Ends
 pub mod Steps
 pub mod Walks
 pub mod Wholes

@@ -4,7 +4,6 @@ use Prim.Native.Nat.{ℕ, suc, _+_, _*_, _-_, _≤_, _<_}
 use mathlib.Core.Path.{_≡_, refl, sym, ap, subst, _∙_}
 use mathlib.Core.List.{List, _++_}
 use native.Mathlib.Omega.{arith}
-use native.Mathlib.Numerals.{add-one}
 use lib.ListN.{length, take, drop, length-drop, length-take}
 use lib.Seq.{take-all}
 use Rattle.definitions.specs.declared.Call.{Call}
@@ -27,11 +26,20 @@ use Rattle.tables.specs.declared.Answered.{Answered}
 use Rattle.tables.specs.Tables.{Tables}
 use Rattle.tables.specs.Meaning.{coreOf}
 use Rattle.tables.specs.Promise.{Meets}
-use Rattle.script.specs.Walk.{between, LineEnd, Walked, Walking, numberOf}
+use Rattle.reader.specs.declared.Span.{Span}
+use Rattle.reader.specs.Lines.{between, spanAt, LineEnd}
+use Rattle.reader.proofs.Ends.{span-end, span-feed, span-last}
+use Rattle.script.specs.Walk.{Walked, Walking}
 use Rattle.script.proofs.Steps.{open-walked, closed-walked}
 
 module _ (text : List ℕ) (at : ℕ) (out : List ℕ) (written : ℕ) (c : Control) (t : Tables)
-    (w : Walking text at out written c t) (inside : at < length text) (end : ℕ) (l : LineEnd text at end) where
+    (w : Walking text at out written c t) (inside : at < length text) (span : Span) (read : span ≡ spanAt text at) where
+  abbrev end : ℕ
+  end = span .end
+
+  l : LineEnd text at end
+  l = span-end text at span read (omega arith)
+
   -- the line that is printed next has room
   wrote : {answer : Answer} {new : List ℕ} {more : ℕ} → Printed answer out written new more → Appended (printed answer) out written new more
   wrote p = p .written (omega (arith, w .walked .room))
@@ -41,9 +49,9 @@ module _ (text : List ℕ) (at : ℕ) (out : List ℕ) (written : ℕ) (c : Cont
 
   -- bytes behind the last line feed
   pub walk-open : (new : List ℕ) (more : ℕ) → end ≡ length text → Printed (Refused 16) out written new more
-      → Walking text end new more c t × (at < end)
+      → Walking text (span .next) new more c t × (at < span .next)
   walk-open new more e p =
-      subst (λ (n : ℕ). Walking text n new more c t × (at < n)) (sym e) (
+      subst (λ (n : ℕ). Walking text n new more c t × (at < n)) (sym (span-last text at span read (omega arith) ∙ e)) (
         record {
           walked = open-walked text at (coreOf c t) out written new more (w .walked) inside whole (appended-front a) (appended-length a)
               (omega (arith, a .place, sixteen-length, inside));
@@ -60,9 +68,12 @@ module _ (text : List ℕ) (at : ℕ) (out : List ℕ) (written : ℕ) (c : Cont
           subst Unbroken (take-all (end - at) (drop at text) (omega (arith, length-drop at text, e))) (l .unbroken)
 
   module _ (feed : end < length text) (new : List ℕ) (more : ℕ) where
+    passed : span .next ≡ suc end
+    passed = span-feed text at span read feed
+
     -- a line without a form
     pub walk-unread : (n : ℕ) → parsed (between text at end) ≡ Unread n → Printed (Refused n) out written new more
-        → Walking text (end + 1) new more c t × (at < end + 1)
+        → Walking text (span .next) new more c t × (at < span .next)
     unfolding answered
     walk-unread n e p =
         let told : answered (coreOf c t) (parsed (between text at end)) ≡ refused n (coreOf c t) = ap (answered (coreOf c t)) e in
@@ -71,14 +82,14 @@ module _ (text : List ℕ) (at : ℕ) (out : List ℕ) (written : ℕ) (c : Cont
         (appended-front (wrote p) ∙ ap (λ (q : Result). take written out ++ printed (q .answer)) (sym told))
         (appended-length (wrote p))
         (omega (arith, wrote p .place, short, l .forth)) in (
-          rw (add-one end) (record { walked = subst (λ (q : Result). Walked text (q .core) (suc end) new more) told next; valid = w .valid }),
-          omega (arith, l .forth),
+          rw passed (record { walked = subst (λ (q : Result). Walked text (q .core) (suc end) new more) told next; valid = w .valid }),
+          omega (arith, l .forth, passed),
         )
 
     -- a line with a form
     pub walk-form : (call : Call) → parsed (between text at end) ≡ Form call → (r : Answered) (u : Tables) → Meets call c t r u
         → Printed (r .answer) out written new more
-        → Walking text (end + 1) new more (r .control) u × (at < end + 1)
+        → Walking text (span .next) new more (r .control) u × (at < span .next)
     unfolding answered
     walk-form call e r u m p =
         let told : answered (coreOf c t) (parsed (between text at end)) ≡ step (coreOf c t) call = ap (answered (coreOf c t)) e in
@@ -87,9 +98,9 @@ module _ (text : List ℕ) (at : ℕ) (out : List ℕ) (written : ℕ) (c : Cont
         (appended-front (wrote p) ∙ ap (λ (a : Answer). take written out ++ printed a) (m .answer ∙ ap (λ (q : Result). q .answer) (sym told)))
         (appended-length (wrote p))
         (omega (arith, p .short, long, between-length, l .forth)) in (
-          rw (add-one end) (record {
+          rw passed (record {
             walked = subst (λ (x : Core). Walked text x (suc end) new more) (ap (λ (q : Result). q .core) told ∙ sym (m .core)) next;
             valid = m .valid;
           }),
-          omega (arith, l .forth),
+          omega (arith, l .forth, passed),
         )

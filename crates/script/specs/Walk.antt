@@ -1,13 +1,13 @@
 -- What holds between two lines of a script: what has been written, and behind it what the rest of the text prints, is the
 -- printout of the whole; and there is room for it.
-use Prim.Native.Nat.{ℕ, _+_, _*_, _-_, _≤_, _<_}
+use Prim.Native.Nat.{ℕ, _+_, _*_, _-_, _≤_}
 use mathlib.Core.Path.{_≡_}
-use mathlib.Core.Bool.{Bool, true, false}
+use mathlib.Core.Bool.{true, false}
 use lib.Dec.{ltb}
-use mathlib.Core.List.{List, [], _∷_, _++_}
-use lib.ListN.{length, getD, take, drop}
+use mathlib.Core.List.{List, [], _++_}
+use lib.ListN.{length, take, drop}
 use Rattle.definitions.specs.State.{Core, unopened}
-use Rattle.grammar.specs.Bytes.{lineFeed, Unbroken, textLimit}
+use Rattle.grammar.specs.Bytes.{textLimit}
 use Rattle.grammar.specs.declared.Line.{Line}
 use Rattle.grammar.specs.declared.Line.the-variants.{Form, Refused}
 use Rattle.grammar.specs.Printout.{printedFrom, printout}
@@ -15,17 +15,6 @@ use Rattle.tables.specs.declared.Control.{Control}
 use Rattle.tables.specs.Tables.{Tables}
 use Rattle.tables.specs.Meaning.{coreOf}
 use Rattle.tables.specs.Invariant.{Valid}
-
--- the bytes from one place of a text up to another
-abbrev pub between : List ℕ → ℕ → ℕ → List ℕ
-between text at end = take (end - at) (drop at text)
-
--- the line that begins at a place ends at its line feed, or at the end of the text
-pub record LineEnd (text : List ℕ) (at end : ℕ) : Type 0 where
-  pub forth : at ≤ end
-  pub within : end ≤ length text
-  pub unbroken : Unbroken (between text at end)
-  pub closed : end < length text → getD text end 0 ≡ lineFeed
 
 -- A line takes at most 64 bytes, and no more than thirteen for each byte of its own.
 abbrev pub lineRoom : ℕ

@@ -16,14 +16,12 @@ ghost use Rattle.grammar.specs.Printout.{printedFrom};
 ghost use Rattle.tables.specs.Tables.{tables};
 ghost use Rattle.tables.specs.Invariant.{Valid};
 ghost use Rattle.tables.specs.Promise.{Meets};
-ghost use Rattle.script.specs.Walk.{given, LineEnd, numberOf, Walking};
+ghost use Rattle.script.specs.Walk.{given, numberOf, Walking};
 
 // The longest text that is read, and the room that its printout may take.
 pub const TEXT_LIMIT: usize = 60000;
 
 pub const OUT_ROOM: usize = 780064;
-
-const LINE_FEED: u8 = 10;
 
 // What bytes that are no form are answered with, and a text that is too long.
 const NO_FORM: u32 = 16;
@@ -121,21 +119,6 @@ pub fn perform(
     }
 }
 
-// Where the line that begins at `at` ends: at its line feed, or at the end of the text.
-fn line_end(text: &[u8], at: usize) -> usize
-    requires { ⌜ at ≤ length (now text) ⌝ }
-    ensures { λ r. ⌜ LineEnd (now (text .entry)) at r ⌝ }
-{
-    let mut end = at;
-    while end < text.len() {
-        if text[end] == LINE_FEED {
-            return end;
-        }
-        end += 1;
-    }
-    end
-}
-
 // The number that a line without a form is answered with.
 fn refusal(read: Line) -> u32
     ensures { λ r. ⌜ r ≡ numberOf read ⌝ }
@@ -163,12 +146,14 @@ fn line(
     ensures { λ r. ⌜ Walking (now (text .entry)) (r .next) (now (out .exit)) (r .written) (r .control)
         (tables (now (clients .exit)) (now (handles .exit)) (now (lengths .exit)) (now (links .exit))) × (at < r .next) ⌝ }
 {
-    let end = line_end(text, at);
+    let span = reader::line_at(text, at);
+    let end = span.end;
+    let next = span.next;
     if end == text.len() {
         let more = printer::print(out, written, Answer::Refused { number: NO_FORM });
         return Progress {
             control,
-            next: end,
+            next,
             written: more,
         };
     }
@@ -178,7 +163,7 @@ fn line(
         let more = printer::print(out, written, Answer::Refused { number });
         return Progress {
             control,
-            next: end + 1,
+            next,
             written: more,
         };
     };
@@ -188,7 +173,7 @@ fn line(
     let more = printer::print(out, written, answer);
     Progress {
         control: after,
-        next: end + 1,
+        next,
         written: more,
     }
 }
@@ -210,7 +195,7 @@ fn lines(
     let mut core = control;
     let mut at: usize = 0;
     let mut written: usize = 0;
-    while at < text.len() {
+    while !reader::ended(text, at) {
         let progress = line(
             text,
             at,
