@@ -6,18 +6,18 @@
 build=$1 passed=0 failed=0
 
 # Prints what a test said of a fault; the first line of a test that found something is "seed ..".
-judge() { # fault, test, caught or let by
+judge() { # fault, test, caught or not seen
     line=$(head -n 1 "$build/fault-$1/$2.txt")
     case $line in
     seed*) found=caught ;;
-    *) found="let by" line=$(tail -n 1 "$build/fault-$1/$2.txt") ;;
+    *) found="not seen" line=$(tail -n 1 "$build/fault-$1/$2.txt") ;;
     esac
     if [ "$found" = "$3" ]; then
         passed=$((passed + 1))
-        echo "passed: fault $1 is $found by $2: $line"
+        printf '%s\n' "passed: fault $1 is $found by $2: $line"
     else
         failed=$((failed + 1))
-        echo "failed: fault $1 is $found by $2, and should be $3: $line"
+        printf '%s\n' "failed: fault $1 is $found by $2, and should be $3: $line"
     fi
 }
 
@@ -27,7 +27,7 @@ for fault in 1 2 3 4 5 5b; do
     patch -s -p1 -d "$folder" <"second/faults/$fault.patch" || exit 2
     rustc -O --edition 2021 "$folder/src/main.rs" -o "$folder/slots" || exit 2
     case $fault in
-    5*) wanted="let by" ;;
+    5*) wanted="not seen" ;;
     *) wanted=caught ;;
     esac
     "$build/compare" "$folder/slots" 1 2000 >"$folder/compare.txt"

@@ -39,10 +39,8 @@ fn agrees(who: &str, printed: &[u8], case: &Case) -> bool {
     if printed == case.expected {
         return true;
     }
-    let lines = |bytes: &[u8]| -> Vec<String> {
-        bytes.split(|&byte| byte == b'\n').map(|line| String::from_utf8_lossy(line).into_owned()).collect()
-    };
-    let (is, should) = (lines(printed), lines(&case.expected));
+    let (is, should) = (program::shown(printed), program::shown(&case.expected));
+    let (is, should): (Vec<&str>, Vec<&str>) = (is.lines().collect(), should.lines().collect());
     let at = (0..is.len().max(should.len())).find(|&i| is.get(i) != should.get(i)).unwrap_or(0);
     println!("failed: {}: line {} of {} is {:?}, not {:?}", case.name, at + 1, who, is.get(at), should.get(at));
     false
