@@ -1,39 +1,51 @@
 #!/bin/sh
 # Shows that the tests can fail: builds the second program with each fault of paper 01's list and runs the tests on it.
-# `compare` must catch all six, `pairs` the first four (the other two cannot be seen by pairs, see src/pairs.rs).
 #   tests/faults.sh BUILD    in the root of the repository, after the build of tests/run
+# `compare` and the long run must catch all six, `pairs` the first four (the other two cannot be seen by pairs, see
+# src/pairs.rs), `stretches` the first five (the last one needs longer queues than fit a stretch).
 # Prints a line for each; the printouts stay in BUILD/fault-N.
 build=$1 passed=0 failed=0
 
-# Prints what a test said of a fault; the first line of a test that found something is "seed ..".
-judge() { # fault, test, caught or not seen
-    line=$(head -n 1 "$build/fault-$1/$2.txt")
-    case $line in
-    seed*) found=caught ;;
-    *) found="not seen" line=$(tail -n 1 "$build/fault-$1/$2.txt") ;;
-    esac
-    if [ "$found" = "$3" ]; then
+# Prints what became of a fault.
+judge() { # fault, test, what was found, what should be, the test's own words
+    if [ "$3" = "$4" ]; then
         passed=$((passed + 1))
-        printf '%s\n' "passed: fault $1 is $found by $2: $line"
+        printf '%s\n' "passed: fault $1 is $3 by $2: $5"
     else
         failed=$((failed + 1))
-        printf '%s\n' "failed: fault $1 is $found by $2, and should be $3: $line"
+        printf '%s\n' "failed: fault $1 is $3 by $2, and should be $4: $5"
     fi
 }
 
+# Runs a test that ends with 0 if it found no difference.
+try() { # fault, test, caught or not seen, the test's arguments
+    fault=$1 test=$2 wanted=$3
+    shift 3
+    if "$build/$test" "$folder/slots" "$@" >"$folder/$test.txt"; then
+        judge "$fault" "$test" "not seen" "$wanted" "$(tail -n 1 "$folder/$test.txt")"
+    else
+        judge "$fault" "$test" caught "$wanted" "$(head -n 1 "$folder/$test.txt")"
+    fi
+}
+
+"$build/long" 1 3 >"$build/long.txt"
 for fault in 1 2 3 4 5 5b; do
     folder=$build/fault-$fault
     rm -rf "$folder" && mkdir -p "$folder" && cp -r second/src "$folder/src" || exit 2
     patch -s -p1 -d "$folder" <"second/faults/$fault.patch" || exit 2
-    rustc -O --edition 2021 "$folder/src/main.rs" -o "$folder/slots" || exit 2
-    case $fault in
-    5*) wanted="not seen" ;;
-    *) wanted=caught ;;
-    esac
-    "$build/compare" "$folder/slots" 1 2000 >"$folder/compare.txt"
-    judge $fault compare caught
-    "$build/pairs" "$folder/slots" 1 300 >"$folder/pairs.txt"
-    judge $fault pairs "$wanted"
+    for program in main long; do
+        rustc -O --edition 2021 "$folder/src/$program.rs" -o "$folder/$program" || exit 2
+    done
+    mv "$folder/main" "$folder/slots"
+    in_pairs=caught in_stretches=caught
+    case $fault in 5*) in_pairs="not seen" ;; esac
+    case $fault in 5b) in_stretches="not seen" ;; esac
+    try $fault compare caught 1 2000
+    try $fault pairs "$in_pairs" 1 300
+    try $fault stretches "$in_stretches" 1 1
+    "$folder/long" 1 3 >"$folder/long.txt"
+    if cmp "$build/long.txt" "$folder/long.txt" >"$folder/cmp.txt"; then found="not seen"; else found=caught; fi
+    judge $fault "the long run" "$found" caught "$(sed 's/.*, //' "$folder/cmp.txt")"
 done
 echo "$passed passed, $failed failed"
 [ "$failed" = 0 ]

@@ -4,7 +4,7 @@
 //! A line of a file is `LINE => ANSWER`, `N times LINE => ANSWER`, `LINE ~> ANSWER` (the last line of the text, without its line
 //! feed), empty, or a comment that begins with `#`. In LINE, \0, \t, \r, \\ and \xHH stand for a byte.
 
-mod program;
+use tests::program;
 
 struct Case {
     name: String,

@@ -8,16 +8,11 @@
 //! no bucket to refill or to take from, and a change of type gives a full one), so both histories
 //! of a pair go wrong in the same way. `compare` sees them.
 
-mod history;
-mod lines;
-mod pair;
-mod program;
-mod random;
-mod shrink;
-
-use history::{History, Seen};
-use pair::{Pair, Side};
-use program::{run, shown, Run};
+use tests::history::{History, Seen};
+use tests::history;
+use tests::pair::{Pair, Side};
+use tests::program::{run, shown, Run};
+use tests::shrink;
 
 /// A run of this many pairs must have met everything that is compared.
 const ENOUGH: u64 = 1000;

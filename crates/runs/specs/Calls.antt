@@ -28,7 +28,7 @@ packetOf c d = record { handle = d; length = 63 + c % 1457 }
 
 -- the page's table, by the last k of each row: the rows of load, arrive and tick, and then the whole
 unfoldable pub trafficAt : ℕ → ℕ → ℕ → ℕ → Call
-trafficAt k id c d = cond (leb k 516) (Load id (c % 130)) (cond (leb k 2720) (Arrive id (packetOf c d)) Tick)
+trafficAt k id c d = cond (leb k 516) (Load id (c % 130)) (cond (leb k 3395) (Arrive id (packetOf c d)) Tick)
 
 unfoldable pub callAt : ℕ → ℕ → ℕ → ℕ → Call
 callAt k b c d =

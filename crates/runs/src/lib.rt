@@ -51,7 +51,7 @@ fn traffic_of(k: u32, id: u32, c: u32, d: u32) -> Call
             dummies: c % 130,
         };
     }
-    if k <= 2720 {
+    if k <= 3395 {
         let packet = Packet {
             handle: d,
             length: 63 + c % 1457,

@@ -1,0 +1,10 @@
+//! What the test programs share.
+
+pub mod difference;
+pub mod history;
+pub mod lines;
+pub mod pair;
+pub mod program;
+pub mod random;
+pub mod scripts;
+pub mod shrink;
