@@ -34,6 +34,10 @@ pub decimal-high : (n : ℕ) → 10 ≤ n → decimal n ≡ decimal (n / 10) ++ 
 unfolding decimal
 decimal-high n high = rw (digits-high n n high, enough n (suc (n / 10)) (n / 10) (omega arith) (omega arith))
 
+-- a number of two digits
+pub decimal-two : (n : ℕ) → 10 ≤ n → n < 100 → decimal n ≡ (48 + n / 10) ∷ (48 + n % 10) ∷ []
+decimal-two n high low = rw (decimal-high n high, decimal-low (n / 10) (omega arith))
+
 pub decimal-some : (n : ℕ) → 1 ≤ length (decimal n)
 decimal-some n =
     lt-cases n 10 (λ low. rw (decimal-low n low) (omega arith))

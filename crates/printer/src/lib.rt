@@ -17,7 +17,7 @@ const GAP: u8 = b'#';
 
 const ZERO: u32 = 48;
 
-// Writes the digits of n, the last one behind those of n / 10: at most ten calls deep.
+// Writes the digits of n, the last one behind those of n / 10. Two digits, the most common case, are written at once.
 fn digits(out: &mut [u8], at: usize, n: u32) -> usize
     requires { ⌜ at + length (decimal n) ≤ length (now out) ⌝ }
     ensures { λ r. ⌜ Appended (decimal n) (now (out .entry)) at (now (out .exit)) r ⌝ }
@@ -25,6 +25,11 @@ fn digits(out: &mut [u8], at: usize, n: u32) -> usize
     if n < 10 {
         out[at] = (ZERO + n) as u8;
         return at + 1;
+    }
+    if n < 100 {
+        out[at] = (ZERO + n / 10) as u8;
+        out[at + 1] = (ZERO + n % 10) as u8;
+        return at + 2;
     }
     let end = digits(out, at, n / 10);
     out[end] = (ZERO + n % 10) as u8;
@@ -43,8 +48,8 @@ fn fill(out: &mut [u8], at: usize, template: &[u8], numbers: &[u32]) -> usize
     while i < template.len() {
         let byte = template[i];
         i += 1;
-        if next < numbers.len() {
-            if byte == GAP {
+        if byte == GAP {
+            if next < numbers.len() {
                 end = digits(out, end, numbers[next]);
                 next += 1;
                 continue;

@@ -46,7 +46,7 @@ gap-next c =
     let turn = c .before .before .before in
     let loop = turn .before .loop in
     next-gap (template turn) (numbers turn) (loop .i) (loop .next) (turn .loop-test .taken)
-    (c .before .if1 .taken) (c .if2 .taken)
+    (c .if2 .taken) (c .before .if1 .taken)
 
 -- a byte that is written as it is: no gap, or no number is left
 byte-next : (c : tie.Joined1 Inv-loop μ-loop) →
@@ -57,8 +57,8 @@ byte-next c =
     let turn = c .before .before in
     let loop = turn .before .loop in
     let more = turn .loop-test .taken in
-    ⊎-elim (λ w. next-byte (template turn) (numbers turn) (loop .i) (loop .next) more (w .1 .left))
-    (λ w. next-spent (template turn) (numbers turn) (loop .i) (loop .next) more (w .left))
+    ⊎-elim (λ w. next-spent (template turn) (numbers turn) (loop .i) (loop .next) more (w .1 .left))
+    (λ w. next-byte (template turn) (numbers turn) (loop .i) (loop .next) more (w .left))
     (c .if1 .came)
 
 byte-room : (c : tie.Joined1 Inv-loop μ-loop) →
