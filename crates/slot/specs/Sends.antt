@@ -1,4 +1,5 @@
 -- What a client whose slot it is sends, and what is left of it in control and tables.
+-- "The one drawn sends its first packet; without one, a dummy" (paper 01).
 use Prim.Native.Nat.{ℕ, _+_, _*_, _-_, _%_, _<_}
 use mathlib.Core.Path.{_≡_}
 use mathlib.Core.Logic.{_≢_}
