@@ -14,11 +14,11 @@ use borrow.Author.Tests.{eq-eqb, ne-eqb, lt-ltb, le-ltb}
 use Rattle.definitions.specs.Sizes.{ids}
 use Rattle.definitions.specs.Draw.{firstFrom, sumBelow, drawnAt}
 use Rattle.definitions.proofs.Laws.Tests.{true-false, and-both}
+use Rattle.definitions.proofs.Laws.Sums.{sumBelow-zero, sumBelow-more, sumBelow-other}
 use Rattle.marks.specs.Marks.{marked}
 use Rattle.marks.proofs.Search.{firstFrom-le, firstFrom-holds, firstFrom-before, firstFrom-is}
 use Rattle.marks.proofs.Words.{marked-first-lt, marked-first, marked-first-none}
 use Rattle.draw.specs.Weights.{weightAt}
-use Rattle.draw.proofs.Sums.{sumBelow-none, sumBelow-mono, sumBelow-without}
 
 -- the first mark of a word
 abbrev pub firstOf : ℕ → ℕ
@@ -92,7 +92,7 @@ module _ {word : ℕ} {clients : List ℕ} {b left sum : ℕ} (walked : Walked w
   pub walked-reached : sum ≡ sumBelow (firstOf left) (weightAt word clients)
   walked-reached =
       let none : sumBelow (firstOf left) (weightAt left clients) ≡ 0 =
-      sumBelow-none (firstOf left) (weightAt left clients)
+      sumBelow-zero (firstOf left) (weightAt left clients)
       (λ j l. weight-unmarked left clients j (firstFrom-before ids (marked left) j l)) in
       omega (arith, walked .sums (firstOf left) (le-refl (firstOf left)))
 
@@ -112,7 +112,7 @@ module _ {word : ℕ} {clients : List ℕ} {b left sum : ℕ} (walked : Walked w
         (λ j l. le-ltb _ _ (before j l)))
       where
         before : (j : ℕ) → j < firstOf left → sumBelow (suc j) (weightAt word clients) ≤ target
-        before j l = omega (arith, walked-reached, sumBelow-mono (weightAt word clients) (suc j) (firstOf left) l)
+        before j l = omega (arith, walked-reached, sumBelow-more (weightAt word clients) (suc j) (firstOf left) l)
 
     pub walked-none : left ≡ 0 → ids ≡ drawnAt (weightAt word clients) target
     walked-none e =
@@ -156,11 +156,14 @@ module _ {word : ℕ} {clients : List ℕ} {b left sum id rate : ℕ} (turn : Tu
         fits = omega (arith, turn .walked .fits);
         small = le-trans turn-bound (mul-le-mul-right b past);
         sums = λ n h.
-            let less : sumBelow n (weightAt left clients) ≡ weightAt left clients (firstOf left) + sumBelow n (weightAt rest clients) =
-            sumBelow-without (weightAt left clients) (weightAt rest clients) (firstOf left)
-            (weight-unmarked rest clients (firstOf left) (rest-unmarked left rest marks))
-            (λ j q. weight-kept left rest clients j (rest-kept left rest marks j q)) n (omega arith) in
-            omega (arith, turn .walked .sums n (omega arith), turn-weight);
+            omega (
+              arith,
+              turn .walked .sums n (omega arith),
+              turn-weight,
+              weight-unmarked rest clients (firstOf left) (rest-unmarked left rest marks),
+              sumBelow-other n (firstOf left) (weightAt left clients) (weightAt rest clients) (omega arith)
+                  (λ j q. weight-kept left rest clients j (rest-kept left rest marks j q)),
+            );
       }
 
   -- or ends at the id drawn

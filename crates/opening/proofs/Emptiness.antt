@@ -5,7 +5,7 @@ use mathlib.Core.Path.{_≡_, refl, sym, ap, fun-ext, subst, _∙_}
 use mathlib.Core.Logic.{_≢_}
 use mathlib.Core.Bool.{Bool, true, false, cond, not, _&&_, and-false}
 use mathlib.Core.List.{List, [], _∷_, map}
-use lib.Dec.{eqb, ltb, lit<}
+use lib.Dec.{eqb, ltb}
 use lib.ListN.{length, getD, replicate, length-replicate}
 use Rattle.definitions.specs.declared.Call.the-variants.{Open}
 use Rattle.definitions.specs.declared.Answer.the-variants.{Accepted, Refused}
@@ -32,6 +32,7 @@ use Rattle.tables.specs.Meaning.{kindAt, queueAt, clientAt, clientsOf, orderOf,
 use Rattle.tables.specs.Invariant.{Sized, Shape, Sound-core, Valid}
 use Rattle.tables.specs.Numbers.{firstFailed}
 use Rattle.tables.specs.Promise.{Meets}
+use Rattle.tables.proofs.Fields.{places-positive}
 use Rattle.tables.proofs.Promises.{checked-refused, checked-done, coreOf-opened}
 
 -- a control without clients
@@ -117,15 +118,12 @@ module _ (threshold discipline seed : ℕ) where
     heads = λ id l. rw (field-zeros 4 id) places-positive;
     waits = λ id. marked-none id ∙ sym (ap (λ (n : ℕ). ltb id ids && not (eqb n 0)) (field-zeros 5 id) ∙ and-false (ltb id ids));
     apart = λ id e. true-false e (marked-none id);
-    ratesHeld = sym (ap rates clients-empty ∙ sumBelow-zero ids (activeRate (λ id. nobody)) (λ i. refl));
+    ratesHeld = sym (ap rates clients-empty ∙ sumBelow-zero ids (activeRate (λ id. nobody)) (λ i h. refl));
     sound = new-sound;
     order = [];
     ordered = new-ordered;
     placed = λ id l. rw (kind-empty id);
   }
-    where
-      places-positive : 0 < places
-      places-positive = unfold places in lit< tt
 
 -- An open in the code.
 module _ (c : Control) (t : Tables) (valid : Valid c t) (threshold discipline seed : ℕ) where

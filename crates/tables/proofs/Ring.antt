@@ -5,7 +5,7 @@ use mathlib.Core.Path.{_≡_, refl, ap, ap₂, _∙_}
 use mathlib.Core.Logic.{_≢_}
 use mathlib.Core.List.{List, [], _∷_, _++_, map}
 use native.Mathlib.Omega.{arith}
-use lib.ListN.{length}
+use lib.ListN.{length, length-map}
 use Rattle.definitions.specs.declared.Packet.{Packet}
 use Rattle.definitions.specs.Sizes.{ids, places}
 use Rattle.order.specs.Order.{sentinel, All, Absent}
@@ -89,13 +89,9 @@ pub packets-append : (t : Tables) (xs ys : List ℕ) → map (packetAt t) (xs ++
 packets-append t [] ys = refl
 packets-append t (x ∷ xs) ys = ap (λ (r : List Packet). packetAt t x ∷ r) (packets-append t xs ys)
 
-packets-length : (t : Tables) (order : List ℕ) → length (map (packetAt t) order) ≡ length order
-packets-length t [] = refl
-packets-length t (p ∷ order) = ap suc (packets-length t order)
-
 -- a queue has as many packets as its count says
 pub queue-length : (t : Tables) (id : ℕ) → length (queueAt t id) ≡ countAt (t .clients) id
 unfolding queueAt
 queue-length t id =
-    packets-length t (ring id (headAt (t .clients) id) (countAt (t .clients) id))
+    length-map (ring id (headAt (t .clients) id) (countAt (t .clients) id)) (packetAt t)
     ∙ ring-length id (headAt (t .clients) id) (countAt (t .clients) id)

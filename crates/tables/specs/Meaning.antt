@@ -51,3 +51,16 @@ stateOf c t = record {
 
 unfoldable pub coreOf : Control → Tables → Core
 coreOf c t = cond (c .opened) (running (stateOf c t)) unopened
+
+-- control with the ids that wait anew
+abbrev pub withWaiting : Control → ℕ → Control
+withWaiting c word = record {
+  opened = c .opened;
+  threshold = c .threshold;
+  discipline = c .discipline;
+  generator = c .generator;
+  rates = c .rates;
+  indifferent = c .indifferent;
+  private = c .private;
+  waiting = word;
+}

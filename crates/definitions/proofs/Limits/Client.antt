@@ -38,6 +38,18 @@ QueueBy absent queue = queue ≡ []
 QueueBy indifferent queue = (length queue ≤ places) × LengthsFit queue
 QueueBy private queue = (length queue ≤ places) × LengthsFit queue
 
+-- whatever the kind
+
+pub rate-high : (k : Kind) (rate : ℕ) → RateBy k rate → rate ≤ shares
+rate-high absent rate e = omega arith
+rate-high indifferent rate e = e .1
+rate-high private rate e = e .1
+
+pub burst-high : (k : Kind) (burst : ℕ) → BurstBy k burst → burst ≤ burstLimit
+burst-high absent burst e = omega arith
+burst-high indifferent burst e = e .1
+burst-high private burst e = omega arith
+
 pub record Parts (c : Client) : Type 0 where
   pub rates : RateBy (c .kind) (c .rate)
   pub bursts : BurstBy (c .kind) (c .burst)
