@@ -10,11 +10,10 @@ use lib.Dec.{eqb}
 use borrow.Author.Tests.{eq-eqb, ne-eqb}
 use Rattle.definitions.specs.Sizes.{ids, places, firstCome}
 use Rattle.definitions.specs.Draw.{sumBelow, targetOf, draw}
-use Rattle.definitions.specs.Client.{Kind, absent, indifferent, private, isPrivate, Client, empty}
+use Rattle.definitions.specs.Client.{Kind, indifferent, private, isPrivate, Client, empty}
 use Rattle.definitions.specs.State.{State, earliest}
 use Rattle.definitions.specs.Tick.{anyBelow, contends, ruleOf, contenderRate, privateRate, firstTurn, turnBy, turn}
 use Rattle.definitions.specs.Limits.{LimitsBy, standing, ordered}
-use Rattle.definitions.proofs.Laws.Tests.{true-false}
 use Rattle.definitions.proofs.Laws.Clients.{private-kind}
 use Rattle.definitions.proofs.Laws.Sums.{sumBelow-same, sumBelow-part, anyBelow-true}
 use Rattle.definitions.proofs.Limits.Turns.{contends-contender}

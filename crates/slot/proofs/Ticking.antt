@@ -1,12 +1,11 @@
 -- A tick, put together of its parts: a turn is done, and then the buckets are refilled. Assumes nothing.
-use Prim.Native.Nat.{ℕ, _≤_, _<_}
-use mathlib.Core.Path.{_≡_, refl, sym, ap, subst, _∙_}
+use Prim.Native.Nat.{ℕ, _<_}
+use mathlib.Core.Path.{_≡_, refl, sym, ap, _∙_}
 use mathlib.Core.Bool.{true, false}
 use mathlib.Core.List.{List}
 use Rattle.definitions.specs.declared.Call.the-variants.{Tick}
 use Rattle.definitions.specs.declared.Answer.the-variants.{Refused, Slot}
-use native.Mathlib.Omega.{arith}
-use Rattle.definitions.specs.Sizes.{ids, shares, burstLimit}
+use Rattle.definitions.specs.Sizes.{ids}
 use Rattle.definitions.specs.Client.{Kind, absent, indifferent, private, isIndifferent, Client, spent}
 use Rattle.definitions.specs.State.{State, Core, running, unopened}
 use Rattle.definitions.specs.Checks.{Result, refused}

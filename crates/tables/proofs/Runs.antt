@@ -3,9 +3,7 @@
 use Prim.Native.Nat.{ℕ}
 use mathlib.Core.Path.{_≡_, ap, _∙_}
 use Rattle.definitions.specs.declared.Call.{Call}
-use Rattle.definitions.specs.declared.Answer.{Answer}
 use Rattle.definitions.specs.State.{Core}
-use Rattle.definitions.specs.Checks.{Result}
 use Rattle.definitions.specs.Core.{step}
 use Rattle.definitions.specs.History.{History, end, calls, scheduler}
 use Rattle.definitions.specs.Sameness.{after, answerAt, SameHoldings, LooksSame, Sameness}

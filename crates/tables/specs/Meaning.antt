@@ -1,7 +1,7 @@
 -- What control and tables mean: a state of the definitions. Where a queue begins, what its unused places hold and how the
 -- order is linked do not show in it.
 use Prim.Native.Nat.{ℕ}
-use mathlib.Core.Bool.{Bool, true, false, cond}
+use mathlib.Core.Bool.{cond}
 use mathlib.Core.List.{List, map}
 use lib.Dec.{ltb}
 use lib.ListN.{getD}

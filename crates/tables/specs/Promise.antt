@@ -2,7 +2,6 @@
 -- state before, refused calls too". And the tables stay valid.
 use mathlib.Core.Path.{_≡_}
 use Rattle.definitions.specs.declared.Call.{Call}
-use Rattle.definitions.specs.Checks.{Result}
 use Rattle.definitions.specs.Core.{step}
 use Rattle.tables.specs.declared.Control.{Control}
 use Rattle.tables.specs.declared.Answered.{Answered}

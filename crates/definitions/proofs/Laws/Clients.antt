@@ -1,7 +1,7 @@
 -- What the clients are after one is put in place or a slot is spent, when two kinds are the same, and what kind a type gives.
 -- By splitting the test of the id, the rule, the kinds or the type. Assumes nothing.
 use Prim.Native.Nat.{ℕ}
-use mathlib.Core.Path.{_≡_, refl, sym, ap, subst, _∙_}
+use mathlib.Core.Path.{_≡_, refl, sym, subst}
 use mathlib.Core.Logic.{_≢_}
 use mathlib.Core.Bool.{Bool, true, false, cond}
 use lib.Dec.{eqb}

@@ -10,7 +10,7 @@ use lib.ListN.{length, length-append}
 use borrow.Author.Tests.{eqb-true}
 use Rattle.definitions.specs.declared.Packet.{Packet}
 use Rattle.definitions.specs.Sizes.{places, poolLimit, shares, burstLimit, shortest, longest, indifferentType, privateType}
-use Rattle.definitions.specs.Client.{Kind, absent, indifferent, private, kindOf, isActive, isIndifferent, sameKind, Client, empty, nobody, joining, retuned, loaded, queued, spent, refilled}
+use Rattle.definitions.specs.Client.{Kind, absent, indifferent, private, kindOf, isActive, isIndifferent, Client, empty, nobody, joining, retuned, loaded, queued, spent, refilled}
 use Rattle.definitions.specs.Checks.{within, burstFits, termChecks}
 use Rattle.definitions.specs.Limits.{LengthsFit, LimitsBy, ClientLimits}
 use Rattle.definitions.proofs.Laws.Tests.{cond-both, within-true}

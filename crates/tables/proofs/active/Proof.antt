@@ -5,9 +5,6 @@ use Rattle.definitions.proofs.Laws.Clients.{active-private}
 use Rattle.tables.specs.Meaning.{kindAt}
 use Rattle.tables.proofs.active.Statement.{statement}
 use Rattle.tables.proofs.active.Tie as tie
-use Rattle.tables.proofs.active.Reads as reads
-use Rattle.tables.proofs.active.Lts as lts
-use Rattle.marks.proofs.has.Reads as has-reads
 
 has-requires : tie.Need-has-requires
 has-requires c κs = search needs
