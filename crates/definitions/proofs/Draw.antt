@@ -10,8 +10,7 @@ use borrow.Author.Tests.{ltb-true, ltb-false}
 use Rattle.definitions.specs.Sizes.{ids}
 use Rattle.definitions.specs.Generator.{stepped}
 use Rattle.definitions.specs.Draw.{sumBelow, firstFrom, drawnAt, targetOf, draw}
-use Rattle.definitions.proofs.Laws.Tests.{lt-cases}
-use Rattle.definitions.proofs.Laws.Sums.{sumBelow-part, sumBelow-more}
+use Rattle.definitions.proofs.Laws.Sums.{sumBelow-part}
 
 -- that an id below n is the one at which the running sum passes the target
 pub record Drawing (n : ℕ) (weight : ℕ → ℕ) (target id : ℕ) : Type 0 where
@@ -51,16 +50,6 @@ module _ (weight : ℕ → ℕ) (target : ℕ) where
 pub drawing-weighs : {n : ℕ} {weight : ℕ → ℕ} {target id : ℕ} → Drawing n weight target id → 0 < weight id
 unfolding sumBelow
 drawing-weighs d = omega arith
-
--- no other id is drawn at the same target
-pub drawing-alone : {n : ℕ} {weight : ℕ → ℕ} {target id other : ℕ}
-    → Drawing n weight target id
-    → Drawing n weight target other
-    → id ≡ other
-drawing-alone {n} {weight} {target} {id} {other} d e =
-    lt-cases id other
-    (λ less. absurd (omega (arith, sumBelow-more weight (suc id) other less)))
-    (λ high. lt-cases other id (λ less. absurd (omega (arith, sumBelow-more weight (suc other) id less))) (λ low. omega arith))
 
 -- the draw of a value: its target is below the sum
 pub targetOf-draws : (weight : ℕ → ℕ) (value : ℕ)

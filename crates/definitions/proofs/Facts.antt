@@ -1,10 +1,10 @@
 -- Small facts of the definitions, each in words of paper 01: on the tick, on changes, on the order of the checks, on refusals.
 -- Each holds by opening the definitions and putting in what is given; the laws that they share stand in Laws.
-use Prim.Native.Nat.{ℕ, zero, suc, _+_, _-_, _*_, _≤_, _<_, min}
+use Prim.Native.Nat.{ℕ, _+_, _-_, _*_, _≤_, _<_, min}
 use mathlib.Core.Path.{_≡_, refl, sym, fun-ext}
 use mathlib.Core.Logic.{_≢_}
 use mathlib.Core.Bool.{true, false}
-use mathlib.Core.List.{List, [], _∷_}
+use mathlib.Core.List.{List, []}
 use native.Mathlib.Omega.{arith}
 use native.Mathlib.Nat.{le-of-eq}
 use lib.Dec.{T, ltb, eqb-refl}
@@ -19,7 +19,7 @@ use Rattle.definitions.specs.Generator.{stepped}
 use Rattle.definitions.specs.Draw.{drawnAt, targetOf, draw}
 use Rattle.definitions.specs.Client.{indifferent, private, isActive, kindOf, Client, retuned, joining, changed, spent, refilled}
 use Rattle.definitions.specs.State.{State, Core, unopened, running}
-use Rattle.definitions.specs.Answers.{bears, isDeparture}
+use Rattle.definitions.specs.Answers.{isDeparture}
 use Rattle.definitions.specs.Checks.{Check, accepted, refused, checked, within, rates, burstFits, openChecks, termChecks, joinChecks, activeChecks, changeChecks, leaveChecks, loadChecks, arriveChecks}
 use Rattle.definitions.specs.Calls.{onOpen, updated, onJoin, onChange, onLeave, onLoad, onArrive}
 use Rattle.definitions.specs.Tick.{rule1, rule2, rule3, ruleOf, privateRate, firstTurn, turnBy, turn, outcomeBy, refillAll, slotted, onTick}

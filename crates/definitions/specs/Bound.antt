@@ -1,17 +1,16 @@
 -- The bucket's bound (paper 01, "Numbers"): "Over n ticks with no open, and no join, change or leave of it, an indifferent
 -- client is accepted at most (level at the start + n × rate) / 1024 times, rounded down."
 -- Claimed from any core on and whatever else is called; a call that is refused does not count as one of those ruled out.
-use Prim.Native.Nat.{ℕ, zero, suc, _+_, _*_, _/_, _≤_}
-use mathlib.Core.Bool.{Bool, true, false, cond, not, _&&_, _||_}
+use Prim.Native.Nat.{ℕ, suc, _+_, _*_, _/_, _≤_}
+use mathlib.Core.Bool.{Bool, true, false, not, _&&_, _||_}
 use mathlib.Core.List.{List, [], _∷_}
-use lib.Dec.{T, eqb}
+use lib.Dec.{T}
 use Rattle.definitions.specs.declared.Call.{Call}
 use Rattle.definitions.specs.declared.Call.the-variants.{Open, Join, Change, Leave, Load, Arrive, Tick}
 use Rattle.definitions.specs.Sizes.{shares}
-use Rattle.definitions.specs.Client.{Client, isIndifferent}
+use Rattle.definitions.specs.Client.{isIndifferent}
 use Rattle.definitions.specs.State.{Core}
 use Rattle.definitions.specs.Answers.{isAccepted}
-use Rattle.definitions.specs.Checks.{Result}
 use Rattle.definitions.specs.Core.{step}
 use Rattle.definitions.specs.History.{clientOf}
 use Rattle.definitions.specs.Sameness.{names, isSetting, isArrival, isTick}

@@ -1,7 +1,7 @@
 -- Six of the seven calls (paper 01, "The calls"); Tick has a module of its own.
 -- Each gives an answer and the core after it. A refused call's core is the one before, by the definition of `checked`.
 use Prim.Native.Nat.{ℕ}
-use mathlib.Core.Bool.{Bool, true, false, cond}
+use mathlib.Core.Bool.{cond}
 use mathlib.Core.List.{List, [], _∷_, _++_}
 use Rattle.definitions.specs.declared.Packet.{Packet}
 use Rattle.definitions.specs.Client.{Client, nobody, kindOf, sameKind, isIndifferent, joining, changed, loaded, queued}

@@ -2,7 +2,7 @@
 -- "Checks run down the table; the first that fails gives its number, and nothing changes."
 -- Number 19 stands in Core; 16, 17 and 18 are the script's.
 use Prim.Native.Nat.{ℕ, _+_, _-_}
-use mathlib.Core.Bool.{Bool, true, false, cond, not, _&&_, _||_}
+use mathlib.Core.Bool.{Bool, cond, not, _&&_, _||_}
 use mathlib.Core.List.{List, [], _∷_}
 use lib.Dec.{eqb, leb, ltb}
 use lib.ListN.{length}

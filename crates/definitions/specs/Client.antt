@@ -1,7 +1,7 @@
 -- A client with its queue, pool and bucket (paper 01, "Clients, queues, pools").
 -- The bucket is the level, the rate at which it is refilled and the burst that caps it.
-use Prim.Native.Nat.{ℕ, zero, suc, pred, _+_, _-_, _*_, min}
-use mathlib.Core.Bool.{Bool, true, false, cond, not, _&&_}
+use Prim.Native.Nat.{ℕ, pred, _+_, _-_, _*_, min}
+use mathlib.Core.Bool.{Bool, true, false, cond, not}
 use mathlib.Core.List.{List, [], _∷_, _++_, tail}
 use lib.Dec.{eqb}
 use Rattle.definitions.specs.declared.Packet.{Packet}

@@ -1,6 +1,5 @@
 -- The core: any call on any core (paper 01, "The calls").
 -- "every call but open | 19 | core unopened"
-use Prim.Native.Nat.{ℕ}
 use Rattle.definitions.specs.declared.Call.{Call}
 use Rattle.definitions.specs.declared.Call.the-variants.{Open, Join, Change, Leave, Load, Arrive, Tick}
 use Rattle.definitions.specs.State.{State, Core, unopened, running}

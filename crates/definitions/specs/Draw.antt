@@ -2,7 +2,7 @@
 -- A draw knows the generator and a weight for each id, and nothing else. An id that is not in the draw weighs 0, and
 -- so is never drawn: the running sum does not grow at it.
 use Prim.Native.Nat.{ℕ, zero, suc, _+_, _%_}
-use mathlib.Core.Bool.{Bool, true, false, cond}
+use mathlib.Core.Bool.{Bool, true, false}
 use lib.Dec.{ltb}
 use Rattle.definitions.specs.Sizes.{ids}
 use Rattle.definitions.specs.Generator.{stepped}

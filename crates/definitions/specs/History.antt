@@ -1,14 +1,13 @@
 -- Histories: lists of the seven calls with any arguments, refused ones included, from an unopened core
 -- (paper 01, "Two histories").
 use Prim.Native.Nat.{ℕ, suc}
-use mathlib.Core.List.{List, [], _∷_}
+use mathlib.Core.List.{List}
 use Rattle.definitions.specs.declared.Packet.{Packet}
 use Rattle.definitions.specs.declared.Call.{Call}
 use Rattle.definitions.specs.declared.Answer.{Answer}
 use Rattle.definitions.specs.Client.{Client, nobody}
-use Rattle.definitions.specs.State.{State, Core, unopened, running}
-use Rattle.definitions.specs.Checks.{Result}
-use Rattle.definitions.specs.Tick.{Rule, rule1, rule2, rule3, Turn, turn}
+use Rattle.definitions.specs.State.{Core, unopened, running}
+use Rattle.definitions.specs.Tick.{Rule, rule1, rule2, rule3, turn}
 use Rattle.definitions.specs.Core.{step}
 
 infixl 20 _then_

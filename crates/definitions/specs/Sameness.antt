@@ -1,17 +1,16 @@
 -- Demand 3 (paper 01, "Two histories"): what the chosen client and every indifferent one see is the same in any two
 -- histories whose kept calls are equal. `Sameness` is the claim, of any scheduler; the words of the paper stand beside it.
-use Prim.Native.Nat.{ℕ, suc}
+use Prim.Native.Nat.{ℕ}
 use mathlib.Core.Path.{_≡_}
 use mathlib.Core.Bool.{Bool, true, false, cond, not, _&&_, _||_}
 use mathlib.Core.List.{List, [], _∷_}
 use lib.Dec.{T, eqb}
-use Rattle.definitions.specs.declared.Packet.{Packet}
 use Rattle.definitions.specs.declared.Call.{Call}
 use Rattle.definitions.specs.declared.Call.the-variants.{Open, Join, Change, Leave, Load, Arrive, Tick}
 use Rattle.definitions.specs.declared.Answer.{Answer}
 use Rattle.definitions.specs.Sizes.{indifferentType}
 use Rattle.definitions.specs.Answers.{number, isAccepted, isDeparture}
-use Rattle.definitions.specs.History.{History, start, _then_, Place, calls, Pick, Scheduler}
+use Rattle.definitions.specs.History.{History, start, _then_, Place, calls, Scheduler}
 
 -- the calls that set a client or the core up: open, join, change and leave
 unfoldable pub isSetting : Call → Bool

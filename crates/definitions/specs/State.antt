@@ -1,6 +1,6 @@
 -- The state of the core: the clients by id, and the order of acceptance (paper 01, "The calls").
 use Prim.Native.Nat.{ℕ}
-use mathlib.Core.Bool.{Bool, true, false, cond}
+use mathlib.Core.Bool.{cond}
 use mathlib.Core.List.{List, [], _∷_}
 use lib.Dec.{eqb}
 use Rattle.definitions.specs.Client.{Client, nobody}

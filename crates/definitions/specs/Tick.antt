@@ -1,6 +1,6 @@
 -- One slot (paper 01, "Tick is one slot"): rules 1 to 3 say whose it is, and rule 4 refills.
 use Prim.Native.Nat.{ℕ, zero, suc, _-_}
-use mathlib.Core.Bool.{Bool, true, false, cond, not, _&&_, _||_}
+use mathlib.Core.Bool.{Bool, false, cond, not, _&&_, _||_}
 use mathlib.Core.List.{List, [], _∷_}
 use lib.Dec.{eqb}
 use Rattle.definitions.specs.declared.Packet.{Packet}

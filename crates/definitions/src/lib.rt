@@ -33,6 +33,7 @@ pub struct Packet {
 }
 
 // The seven calls, with their arguments in the order of the paper. Any number may stand anywhere.
+// `kind` is the paper's type, 1 or 2.
 pub enum Call {
     Open {
         threshold: u32,

@@ -14,11 +14,11 @@ use borrow.Author.Tests.{eq-eqb, ne-eqb, lt-ltb, le-ltb}
 use Rattle.definitions.specs.Sizes.{ids}
 use Rattle.definitions.specs.Draw.{firstFrom, sumBelow, drawnAt}
 use Rattle.definitions.proofs.Laws.Tests.{true-false, and-both}
+use Rattle.definitions.proofs.Laws.Sums.{sumBelow-zero, sumBelow-more, sumBelow-other}
 use Rattle.marks.specs.Marks.{marked}
 use Rattle.marks.proofs.Search.{firstFrom-le, firstFrom-holds, firstFrom-before, firstFrom-is}
 use Rattle.marks.proofs.Words.{marked-first-lt, marked-first, marked-first-none}
 use Rattle.draw.specs.Weights.{weightAt}
-use Rattle.draw.proofs.Sums.{sumBelow-none, sumBelow-mono, sumBelow-without}
 
 -- the first mark of a word
 abbrev pub firstOf : ℕ → ℕ
@@ -33,19 +33,19 @@ first-none word e = ap firstOf e ∙ marked-first-none ids
 
 -- ---- what a mark and its lack say of a weight
 
-pub weight-marked : (word : ℕ) (rates : List ℕ) (id : ℕ) → marked word id ≡ true → weightAt word rates id ≡ getD rates id 0
+pub weight-marked : (word : ℕ) (clients : List ℕ) (id : ℕ) → marked word id ≡ true → weightAt word clients id ≡ getD clients id 0
 unfolding weightAt
-weight-marked word rates id e = rw e
+weight-marked word clients id e = rw e
 
-pub weight-unmarked : (word : ℕ) (rates : List ℕ) (id : ℕ) → marked word id ≡ false → weightAt word rates id ≡ 0
+pub weight-unmarked : (word : ℕ) (clients : List ℕ) (id : ℕ) → marked word id ≡ false → weightAt word clients id ≡ 0
 unfolding weightAt
-weight-unmarked word rates id e = rw e
+weight-unmarked word clients id e = rw e
 
-weight-kept : (word rest : ℕ) (rates : List ℕ) (id : ℕ)
+weight-kept : (word rest : ℕ) (clients : List ℕ) (id : ℕ)
     → marked word id ≡ marked rest id
-    → weightAt word rates id ≡ weightAt rest rates id
+    → weightAt word clients id ≡ weightAt rest clients id
 unfolding weightAt
-weight-kept word rest rates id e = rw e
+weight-kept word rest clients id e = rw e
 
 -- ---- the rest of a word starts past its first mark
 
@@ -67,69 +67,69 @@ rest-first word rest marks l =
 -- ---- the walk over a word, by a table of rates of which those that it meets are at most b
 
 -- `sum` is what the marks of the word weigh that are not left any more, one for each id at most
-pub record Walked (word : ℕ) (rates : List ℕ) (b left sum : ℕ) : Type 0 where
+pub record Walked (word : ℕ) (clients : List ℕ) (b left sum : ℕ) : Type 0 where
   pub fits : left < 2 ^ ids
   pub small : sum ≤ firstOf left * b
-  pub sums : (n : ℕ) → firstOf left ≤ n → sum + sumBelow n (weightAt left rates) ≡ sumBelow n (weightAt word rates)
+  pub sums : (n : ℕ) → firstOf left ≤ n → sum + sumBelow n (weightAt left clients) ≡ sumBelow n (weightAt word clients)
 
 -- a turn of the walk: the first mark left, and its rate
-pub record Turn (word : ℕ) (rates : List ℕ) (b left sum id rate : ℕ) : Type 0 where
+pub record Turn (word : ℕ) (clients : List ℕ) (b left sum id rate : ℕ) : Type 0 where
   pub more : 0 < left
-  pub walked : Walked word rates b left sum
+  pub walked : Walked word clients b left sum
   pub at : id ≡ firstOf left
-  pub of : rate ≡ getD rates id 0
+  pub of : rate ≡ getD clients id 0
   pub bound : rate ≤ b
 
-pub walked-start : (word : ℕ) (rates : List ℕ) (b : ℕ) → word < 2 ^ ids → Walked word rates b word 0
-walked-start word rates b h = record {
+pub walked-start : (word : ℕ) (clients : List ℕ) (b : ℕ) → word < 2 ^ ids → Walked word clients b word 0
+walked-start word clients b h = record {
   fits = h;
   small = zero-le;
-  sums = λ n l. zero-add (sumBelow n (weightAt word rates));
+  sums = λ n l. zero-add (sumBelow n (weightAt word clients));
 }
 
-module _ {word : ℕ} {rates : List ℕ} {b left sum : ℕ} (walked : Walked word rates b left sum) where
+module _ {word : ℕ} {clients : List ℕ} {b left sum : ℕ} (walked : Walked word clients b left sum) where
   -- the marks passed weigh what the word weighs below the first mark left
-  pub walked-reached : sum ≡ sumBelow (firstOf left) (weightAt word rates)
+  pub walked-reached : sum ≡ sumBelow (firstOf left) (weightAt word clients)
   walked-reached =
-      let none : sumBelow (firstOf left) (weightAt left rates) ≡ 0 =
-      sumBelow-none (firstOf left) (weightAt left rates)
-      (λ j l. weight-unmarked left rates j (firstFrom-before ids (marked left) j l)) in
+      let none : sumBelow (firstOf left) (weightAt left clients) ≡ 0 =
+      sumBelow-zero (firstOf left) (weightAt left clients)
+      (λ j l. weight-unmarked left clients j (firstFrom-before ids (marked left) j l)) in
       omega (arith, walked .sums (firstOf left) (le-refl (firstOf left)))
 
   -- and all of it once no mark is left
-  pub walked-all : left ≡ 0 → sum ≡ sumBelow ids (weightAt word rates)
-  walked-all e = walked-reached ∙ ap (λ (n : ℕ). sumBelow n (weightAt word rates)) (first-none left e)
+  pub walked-all : left ≡ 0 → sum ≡ sumBelow ids (weightAt word clients)
+  walked-all e = walked-reached ∙ ap (λ (n : ℕ). sumBelow n (weightAt word clients)) (first-none left e)
 
   module _ (target : ℕ) (under : sum ≤ target) where
     -- if no id passed exceeds the target, the first mark left is drawn where it does, or where none is left
-    walked-drawn : (firstOf left < ids → target < sumBelow (suc (firstOf left)) (weightAt word rates))
-        → firstOf left ≡ drawnAt (weightAt word rates) target
+    walked-drawn : (firstOf left < ids → target < sumBelow (suc (firstOf left)) (weightAt word clients))
+        → firstOf left ≡ drawnAt (weightAt word clients) target
     unfolding drawnAt
     walked-drawn over =
-        sym (firstFrom-is ids (λ id. ltb target (sumBelow (suc id) (weightAt word rates))) (firstOf left)
+        sym (firstFrom-is ids (λ id. ltb target (sumBelow (suc id) (weightAt word clients))) (firstOf left)
         (firstFrom-le ids (marked left))
         (λ l. lt-ltb _ _ (over l))
         (λ j l. le-ltb _ _ (before j l)))
       where
-        before : (j : ℕ) → j < firstOf left → sumBelow (suc j) (weightAt word rates) ≤ target
-        before j l = omega (arith, walked-reached, sumBelow-mono (weightAt word rates) (suc j) (firstOf left) l)
+        before : (j : ℕ) → j < firstOf left → sumBelow (suc j) (weightAt word clients) ≤ target
+        before j l = omega (arith, walked-reached, sumBelow-more (weightAt word clients) (suc j) (firstOf left) l)
 
-    pub walked-none : left ≡ 0 → ids ≡ drawnAt (weightAt word rates) target
+    pub walked-none : left ≡ 0 → ids ≡ drawnAt (weightAt word clients) target
     walked-none e =
         let none : firstOf left ≡ ids = first-none left e in
         sym none ∙ walked-drawn (λ l. absurd (omega arith))
 
-module _ {word : ℕ} {rates : List ℕ} {b left sum id rate : ℕ} (turn : Turn word rates b left sum id rate) where
+module _ {word : ℕ} {clients : List ℕ} {b left sum id rate : ℕ} (turn : Turn word clients b left sum id rate) where
   turn-lt : firstOf left < ids
   turn-lt = marked-first-lt ids left (turn .more) (turn .walked .fits)
 
-  turn-weight : weightAt left rates (firstOf left) ≡ rate
+  turn-weight : weightAt left clients (firstOf left) ≡ rate
   turn-weight =
-      weight-marked left rates (firstOf left) (marked-first ids left (turn .more) (turn .walked .fits))
-      ∙ sym (turn .of ∙ ap (λ (j : ℕ). getD rates j 0) (turn .at))
+      weight-marked left clients (firstOf left) (marked-first ids left (turn .more) (turn .walked .fits))
+      ∙ sym (turn .of ∙ ap (λ (j : ℕ). getD clients j 0) (turn .at))
 
   -- with its rate the sum is the running sum at that id
-  turn-reached : sum + rate ≡ sumBelow (suc (firstOf left)) (weightAt word rates)
+  turn-reached : sum + rate ≡ sumBelow (suc (firstOf left)) (weightAt word clients)
   unfolding sumBelow
   turn-reached =
       let passed = turn .walked .sums in
@@ -149,20 +149,23 @@ module _ {word : ℕ} {rates : List ℕ} {b left sum id rate : ℕ} (turn : Turn
   turn-small = le-trans turn-bound (mul-le-mul-right b turn-lt)
 
   -- the walk goes on with the rest
-  pub turn-rest : (rest : ℕ) → RestOf left rest → rest < left → Walked word rates b rest (sum + rate)
+  pub turn-rest : (rest : ℕ) → RestOf left rest → rest < left → Walked word clients b rest (sum + rate)
   turn-rest rest marks falls =
       let past : firstOf left < firstOf rest = rest-first left rest marks turn-lt in
       record {
         fits = omega (arith, turn .walked .fits);
         small = le-trans turn-bound (mul-le-mul-right b past);
         sums = λ n h.
-            let less : sumBelow n (weightAt left rates) ≡ weightAt left rates (firstOf left) + sumBelow n (weightAt rest rates) =
-            sumBelow-without (weightAt left rates) (weightAt rest rates) (firstOf left)
-            (weight-unmarked rest rates (firstOf left) (rest-unmarked left rest marks))
-            (λ j q. weight-kept left rest rates j (rest-kept left rest marks j q)) n (omega arith) in
-            omega (arith, turn .walked .sums n (omega arith), turn-weight);
+            omega (
+              arith,
+              turn .walked .sums n (omega arith),
+              turn-weight,
+              weight-unmarked rest clients (firstOf left) (rest-unmarked left rest marks),
+              sumBelow-other n (firstOf left) (weightAt left clients) (weightAt rest clients) (omega arith)
+                  (λ j q. weight-kept left rest clients j (rest-kept left rest marks j q)),
+            );
       }
 
   -- or ends at the id drawn
-  pub turn-drawn : (target : ℕ) → sum ≤ target → target < sum + rate → id ≡ drawnAt (weightAt word rates) target
+  pub turn-drawn : (target : ℕ) → sum ≤ target → target < sum + rate → id ≡ drawnAt (weightAt word clients) target
   turn-drawn target under over = turn .at ∙ walked-drawn (turn .walked) target under (λ l. omega (arith, turn-reached))

@@ -43,7 +43,7 @@ pub fn both(a: u64, b: u64) -> u64
     a & b
 }
 
-// Whether an id has a mark.
+// Whether any id has a mark.
 pub fn any(word: u64) -> bool
     ensures { λ r. ⌜ r ≡ anyBelow ids (marked word) ⌝ }
 {

@@ -1,27 +1,26 @@
 -- A fresh core: tables filled with one number each mean a core without clients, and are laid out right. Every number of
 -- the clients' table is 0, no id has a mark, and the order's circle is empty. Assumes nothing.
-use Prim.Native.Nat.{ℕ, zero, suc, _+_, _*_, _<_}
+use Prim.Native.Nat.{ℕ, zero, suc, _+_, _*_}
 use mathlib.Core.Path.{_≡_, refl, sym, ap, fun-ext, subst, _∙_}
 use mathlib.Core.Logic.{_≢_}
 use mathlib.Core.Bool.{Bool, true, false, cond, not, _&&_, and-false}
-use mathlib.Core.List.{List, [], _∷_, map}
-use lib.Dec.{eqb, ltb, lit<}
-use lib.ListN.{length, getD, replicate, length-replicate}
+use mathlib.Core.List.{[], map}
+use lib.Dec.{eqb, ltb}
+use lib.ListN.{getD, replicate, length-replicate}
 use Rattle.definitions.specs.declared.Call.the-variants.{Open}
 use Rattle.definitions.specs.declared.Answer.the-variants.{Accepted, Refused}
 use Rattle.definitions.specs.Sizes.{ids, places}
-use Rattle.definitions.specs.Client.{Kind, absent, Client, nobody}
-use Rattle.definitions.specs.State.{State, Core, unopened, running, fresh}
-use Rattle.definitions.specs.Checks.{Result, accepted, refused, checked, activeRate, rates, openChecks}
+use Rattle.definitions.specs.Client.{absent, nobody}
+use Rattle.definitions.specs.State.{unopened, running, fresh}
+use Rattle.definitions.specs.Checks.{Result, accepted, refused, activeRate, rates, openChecks}
 use Rattle.definitions.specs.Calls.{onOpen}
 use Rattle.definitions.specs.Core.{step}
-use Rattle.definitions.specs.Limits.{StateLimits, CoreLimits}
+use Rattle.definitions.specs.Limits.{CoreLimits}
 use Rattle.definitions.proofs.Laws.Tests.{true-false}
 use Rattle.definitions.proofs.Laws.Sums.{sumBelow-zero}
 use Rattle.definitions.proofs.Limits.{step-limits}
-use Rattle.marks.specs.Marks.{marked}
 use Rattle.marks.proofs.Bits.{marked-none}
-use Rattle.order.specs.Order.{sentinel, linkCount, nextOf, walked, Ordered, Sound}
+use Rattle.order.specs.Order.{sentinel, linkCount}
 use Rattle.order.specs.Owner.{owner, placesOf}
 use Rattle.order.proofs.Operations.{new-sound, new-ordered}
 use Rattle.order.proofs.Walk.{ordered-walked}
@@ -29,9 +28,10 @@ use Rattle.tables.specs.declared.Control.{Control}
 use Rattle.tables.specs.declared.Answered.{Answered}
 use Rattle.tables.specs.Tables.{Tables, tables, field, ring}
 use Rattle.tables.specs.Meaning.{kindAt, queueAt, clientAt, clientsOf, orderOf, stateOf, coreOf}
-use Rattle.tables.specs.Invariant.{Sized, Shape, Sound-core, Valid}
+use Rattle.tables.specs.Invariant.{Shape, Valid}
 use Rattle.tables.specs.Numbers.{firstFailed}
 use Rattle.tables.specs.Promise.{Meets}
+use Rattle.tables.proofs.Fields.{places-positive}
 use Rattle.tables.proofs.Promises.{checked-refused, checked-done, coreOf-opened}
 
 -- a control without clients
@@ -117,15 +117,12 @@ module _ (threshold discipline seed : ℕ) where
     heads = λ id l. rw (field-zeros 4 id) places-positive;
     waits = λ id. marked-none id ∙ sym (ap (λ (n : ℕ). ltb id ids && not (eqb n 0)) (field-zeros 5 id) ∙ and-false (ltb id ids));
     apart = λ id e. true-false e (marked-none id);
-    ratesHeld = sym (ap rates clients-empty ∙ sumBelow-zero ids (activeRate (λ id. nobody)) (λ i. refl));
+    ratesHeld = sym (ap rates clients-empty ∙ sumBelow-zero ids (activeRate (λ id. nobody)) (λ i h. refl));
     sound = new-sound;
     order = [];
     ordered = new-ordered;
     placed = λ id l. rw (kind-empty id);
   }
-    where
-      places-positive : 0 < places
-      places-positive = unfold places in lit< tt
 
 -- An open in the code.
 module _ (c : Control) (t : Tables) (valid : Valid c t) (threshold discipline seed : ℕ) where

@@ -6,7 +6,7 @@ use mathlib.Core.Path.{_≡_, refl, sym, ap, _∙_}
 use mathlib.Core.Logic.{_≢_}
 use mathlib.Core.Bool.{Bool, true, false, cond}
 use mathlib.Core.List.{List, [], _∷_, _++_, map, append-nil}
-use lib.Arith.{digits-div, digits-lt}
+use lib.Arith.{digits-lt}
 use lib.Dec.{eqb}
 use borrow.Author.Tests.{eq-eqb, ne-eqb, eqb-false}
 use Rattle.definitions.specs.Sizes.{ids, places}
@@ -14,15 +14,10 @@ use Rattle.definitions.specs.State.{without, withoutFirst, earliest}
 use Rattle.order.specs.Order.{sentinel, All, Absent, frontOf}
 use Rattle.order.specs.Owner.{owner, placesOf}
 
-module _ (id k : ℕ) (hk : k < places) where
-  -- the k-th place of an id
-  pub owner-place : owner (id * places + k) ≡ id
-  unfolding owner
-  owner-place = digits-div id hk
-
-  pub place-below : id < ids → id * places + k < sentinel
-  unfolding sentinel
-  place-below hid = digits-lt hid hk
+-- the k-th place of an id
+pub place-below : (id k : ℕ) → k < places → id < ids → id * places + k < sentinel
+unfolding sentinel
+place-below id k hk hid = digits-lt hid hk
 
 pub map-owner-append : (xs ys : List ℕ) → map owner (xs ++ ys) ≡ map owner xs ++ map owner ys
 map-owner-append [] ys = refl
@@ -67,10 +62,6 @@ placesOf-append id (x ∷ xs) ys = rw (placesOf-append id xs ys) (split (eqb (ow
 
 -- a place counts for its owner, and for no other id
 module _ (id place : ℕ) where
-  pub placesOf-own : (order : List ℕ) → owner place ≡ id → placesOf id (place ∷ order) ≡ place ∷ placesOf id order
-  unfolding placesOf
-  placesOf-own order own = rw (eq-eqb (owner place) id own)
-
   pub placesOf-other : (order : List ℕ) → owner place ≢ id → placesOf id (place ∷ order) ≡ placesOf id order
   unfolding placesOf
   placesOf-other order own = rw (ne-eqb (owner place) id own)

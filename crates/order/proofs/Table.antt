@@ -10,14 +10,10 @@ use lib.Seq.{getD-set-same, getD-set-other}
 use Rattle.definitions.specs.Sizes.{ids, places}
 use Rattle.order.specs.Order.{sentinel, linkCount, nextOf, prevOf, Sound, joined}
 
--- the numbers of the code
+-- the number of the code
 pub sentinel-value : sentinel ≡ 2048
 unfolding sentinel ids places
 sentinel-value = refl
-
-pub linkCount-value : linkCount ≡ 4098
-unfolding linkCount sentinel ids places
-linkCount-value = refl
 
 -- a node has an entry in each half
 next-index : (links : List ℕ) (a : ℕ) → length links ≡ linkCount → a ≤ sentinel → a < length links

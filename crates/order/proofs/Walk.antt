@@ -2,7 +2,7 @@
 -- Distinct places are at most as many as there are places, so the walk's fuel does not run out.
 use Prim.Native.Nat.{ℕ, zero, suc, _≤_, _<_}
 use native.Mathlib.Omega.{arith}
-use mathlib.Core.Path.{_≡_, refl, sym, _∙_}
+use mathlib.Core.Path.{_≡_, refl}
 use mathlib.Core.List.{List, [], _∷_}
 use lib.ListN.{length}
 use borrow.Author.Tests.{eq-eqb, ne-eqb}
@@ -28,7 +28,3 @@ ordered-length links order h = distinct-length sentinel order (h .within) (h .di
 pub ordered-walked : (links order : List ℕ) → Ordered links order → walked sentinel links (nextOf links sentinel) ≡ order
 ordered-walked links order h =
     linked-walked sentinel links sentinel order (ordered-length links order h) (h .within) (h .linked)
-
--- so a table holds one order at most
-pub ordered-unique : (links xs ys : List ℕ) → Ordered links xs → Ordered links ys → xs ≡ ys
-ordered-unique links xs ys h k = sym (ordered-walked links xs h) ∙ ordered-walked links ys k

@@ -1,4 +1,5 @@
--- The order of acceptance of the places: a circular doubly linked list with one sentinel node, in one table of numbers.
+-- The order of acceptance of the places, for "the packet accepted earliest among all indifferent clients" (paper 01): a
+-- circular doubly linked list with one sentinel node, in one table of numbers.
 -- The first half of the table has the next node of each node, and the second half the previous one.
 use Prim.Native.Nat.{ℕ, zero, suc, _+_, _*_, _≤_, _<_}
 use mathlib.Core.Path.{_≡_}

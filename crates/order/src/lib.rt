@@ -28,7 +28,7 @@ fn join(links: &mut [u32; LINKS], a: u32, b: u32)
     links[NODES + b as usize] = a;
 }
 
-// A new place is the last one. A number that is no place takes part by its remainder.
+// A new place is the last one. A number past the last place is taken modulo END.
 pub fn push(links: &mut [u32; LINKS], place: u32)
     requires { ⌜ Sound (now links) ⌝ }
     ensures { λ r. ⌜ Sound (now (links .exit)) ⌝ }

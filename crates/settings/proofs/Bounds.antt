@@ -5,19 +5,19 @@ use mathlib.Core.Path.{_≡_}
 use mathlib.Core.Bool.{true}
 use mathlib.Core.List.{List}
 use native.Mathlib.Omega.{arith}
-use lib.ListN.{length, length-map}
+use lib.ListN.{length}
 use Rattle.definitions.specs.declared.Packet.{Packet}
 use Rattle.definitions.specs.Sizes.{ids, places, shares, burstLimit}
 use Rattle.definitions.specs.Client.{Kind, absent, indifferent, private, kindOf, isActive, joining}
 use Rattle.definitions.specs.Checks.{termChecks}
 use Rattle.definitions.proofs.Laws.Checked.{Passed}
 use Rattle.definitions.proofs.Laws.Rates.{held, held-active}
-use Rattle.definitions.proofs.Limits.Client.{RateBy, BurstBy, QueueBy, limits-parts, terms-passed}
+use Rattle.definitions.proofs.Limits.Client.{QueueBy, rate-high, burst-high, limits-parts, terms-passed}
 use Rattle.tables.specs.declared.Control.{Control}
-use Rattle.tables.specs.Tables.{Tables, headAt, countAt, ring}
-use Rattle.tables.specs.Meaning.{packetAt, queueAt, clientAt, stateOf}
+use Rattle.tables.specs.Tables.{Tables, countAt}
+use Rattle.tables.specs.Meaning.{clientAt, stateOf}
 use Rattle.tables.specs.Invariant.{Sound-core}
-use Rattle.tables.proofs.Fields.{ring-length}
+use Rattle.tables.proofs.Ring.{queue-length}
 use Rattle.settings.specs.Writes.{Room, Ready}
 use Rattle.settings.proofs.Rates.{limits-own, rate-held}
 
@@ -25,16 +25,6 @@ queue-high : (k : Kind) (q : List Packet) → QueueBy k q → length q ≤ place
 queue-high absent q e = rw e (omega arith)
 queue-high indifferent q e = e .0
 queue-high private q e = e .0
-
-rate-high : (k : Kind) (rate : ℕ) → RateBy k rate → rate ≤ shares
-rate-high absent rate e = omega arith
-rate-high indifferent rate e = e .1
-rate-high private rate e = e .1
-
-burst-high : (k : Kind) (burst : ℕ) → BurstBy k burst → burst ≤ burstLimit
-burst-high absent burst e = omega arith
-burst-high indifferent burst e = e .1
-burst-high private burst e = omega arith
 
 -- the terms of a client that passed their checks
 pub record Fitting (kind rate burst : ℕ) : Type 0 where
@@ -61,13 +51,11 @@ fitting-holds kind rate burst f = held-active (joining kind rate burst) (f .acti
 
 module _ (c : Control) (t : Tables) (sound : Sound-core c t) (id : ℕ) (below : id < ids) where
   count-high : countAt (t .clients) id ≤ places
-  unfolding clientAt queueAt
+  unfolding clientAt
   count-high =
       let x = clientAt c t id in
       let high = queue-high (x .kind) (x .queue) (limits-parts x (limits-own c t sound id below) .queues) in
-      let n = countAt (t .clients) id in
-      let r = ring id (headAt (t .clients) id) n in
-      omega (arith, high, length-map r (packetAt t), ring-length id (headAt (t .clients) id) n)
+      omega (arith, high, queue-length t id)
 
   rates-high : c .rates ≤ shares
   unfolding stateOf

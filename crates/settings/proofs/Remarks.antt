@@ -1,67 +1,31 @@
--- A mark set or taken, and which marks a type has. By the contracts of the marks, at the id and elsewhere. Assumes nothing.
+-- A mark set or taken, and the kind that the marks say. By the contracts of the marks, at the id and elsewhere. Assumes nothing.
 use Prim.Native.Nat.{ℕ, _<_}
 use mathlib.Core.Path.{_≡_, refl, _∙_}
-use mathlib.Core.Bool.{Bool, true, false, cond, not, _&&_, _||_}
+use mathlib.Core.Bool.{Bool, true, false, cond, not, _&&_, _||_, and-true, and-false, or-true, or-false}
 use lib.Dec.{eqb, ltb}
 use borrow.Author.Tests.{lt-ltb, ne-eqb}
-use Rattle.definitions.specs.Sizes.{ids, indifferentType, privateType}
-use Rattle.definitions.specs.Client.{Kind, absent, indifferent, private, kindOf, isActive, isIndifferent, isPrivate}
-use Rattle.definitions.proofs.Laws.Tests.{true-false, eqb-same, eqb-cases}
+use Rattle.definitions.specs.Sizes.{ids}
+use Rattle.definitions.specs.Client.{Kind, absent, indifferent, private, isActive, isIndifferent, isPrivate}
+use Rattle.definitions.proofs.Laws.Tests.{true-false, eqb-same}
 use Rattle.marks.specs.Marks.{marked}
 use Rattle.tables.specs.declared.Control.{Control}
 use Rattle.tables.specs.Meaning.{kindAt}
 use Rattle.settings.specs.Writes.{Remarked, Recast}
-
-or-off : (b : Bool) → (b || false) ≡ b
-or-off true = refl
-or-off false = refl
-
-or-on : (b : Bool) → (b || true) ≡ true
-or-on true = refl
-or-on false = refl
-
-and-on : (b : Bool) → (b && true) ≡ b
-and-on true = refl
-and-on false = refl
-
-and-off : (b : Bool) → (b && false) ≡ false
-and-off true = refl
-and-off false = refl
 
 module _ (word after id : ℕ) where
   pub remarked-set : id < ids
       → ((j : ℕ) → marked after j ≡ marked word j || (eqb j id && ltb id ids))
       → Remarked word after id true
   remarked-set below e = record {
-    own = e id ∙ rw (eqb-same id, lt-ltb id ids below) (or-on (marked word id));
-    others = λ j ne. e j ∙ rw (ne-eqb j id ne) (or-off (marked word j));
+    own = e id ∙ rw (eqb-same id, lt-ltb id ids below) (or-true (marked word id));
+    others = λ j ne. e j ∙ rw (ne-eqb j id ne) (or-false (marked word j));
   }
 
   pub remarked-taken : ((j : ℕ) → marked after j ≡ marked word j && not (eqb j id)) → Remarked word after id false
   remarked-taken e = record {
-    own = e id ∙ rw (eqb-same id) (and-off (marked word id));
-    others = λ j ne. e j ∙ rw (ne-eqb j id ne) (and-on (marked word j));
+    own = e id ∙ rw (eqb-same id) (and-false (marked word id));
+    others = λ j ne. e j ∙ rw (ne-eqb j id ne) (and-true (marked word j));
   }
-
-pub type-indifferent : (type : ℕ) → isIndifferent (kindOf type) ≡ eqb type indifferentType
-unfolding kindOf
-type-indifferent type = go (eqb type indifferentType) (eqb type privateType)
-  where
-    go : (a b : Bool) → isIndifferent (cond a indifferent (cond b private absent)) ≡ a
-    go true b = refl
-    go false true = refl
-    go false false = refl
-
-pub type-private : (type : ℕ) → isPrivate (kindOf type) ≡ eqb type privateType
-unfolding kindOf indifferentType privateType
-type-private type =
-    eqb-cases (λ a. isPrivate (cond a indifferent (cond (eqb type 2) private absent)) ≡ eqb type 2) type 1
-    (λ e. rw e)
-    (λ ne. go (eqb type 2))
-  where
-    go : (b : Bool) → isPrivate (cond b private absent) ≡ b
-    go true = refl
-    go false = refl
 
 -- the kind that the marks say
 pub recast-kind : (c d : Control) (id : ℕ) (kind : Kind) → Recast c d id kind → kindAt d id ≡ kind

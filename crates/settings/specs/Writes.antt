@@ -1,5 +1,6 @@
 -- What is written when a client is set up or taken away: its numbers, its marks, and its places in the order of acceptance.
 -- Nothing else of control and tables changes, and no handle and no length is written.
+-- "If the type differs, queue and pool become empty" (paper 01).
 use Prim.Native.Nat.{ℕ, _+_, _-_, _*_, _^_, _≤_, _<_, min}
 use mathlib.Core.Path.{_≡_}
 use mathlib.Core.Logic.{_≢_}

@@ -1,5 +1,5 @@
-// Setting a client up and taking it away: join, change and leave. All three put a new client in an id's place, where nobody
-// is the client of no type; only a change that keeps the type keeps the client.
+// Join, change and leave. Each gives an id a new client, a leave that of nobody; only a change that keeps the type keeps the
+// client.
 use definitions::BURST_LIMIT;
 use definitions::IDS;
 use definitions::INDIFFERENT;
@@ -16,6 +16,7 @@ use tables::HEAD;
 use tables::LEVEL;
 use tables::POOL;
 use tables::STORE;
+use tables::UNOPENED;
 ghost use mathlib.Core.Path.{_≡_};
 ghost use mathlib.Core.Bool.{true};
 ghost use mathlib.Core.List.{List};
@@ -199,7 +200,7 @@ fn join_number(control: Control, id: u32, kind: u32, rate: u32, burst: u32) -> u
     ensures { λ r. ⌜ ((t : Tables) → Valid control t → r ≡ refusal control t (λ s. joinChecks s id kind rate burst)) ⌝ }
 {
     if !control.opened {
-        return 19;
+        return UNOPENED;
     }
     if IDS <= id {
         return 4;
@@ -215,7 +216,7 @@ fn leave_number(control: Control, id: u32) -> u32
     ensures { λ r. ⌜ ((t : Tables) → r ≡ refusal control t (λ s. leaveChecks s id)) ⌝ }
 {
     if !control.opened {
-        return 19;
+        return UNOPENED;
     }
     if IDS <= id {
         return 4;
@@ -258,7 +259,7 @@ fn keeps_type(control: Control, id: u32, kind: u32) -> bool
     kind == PRIVATE
 }
 
-// Sets an inactive id up with a client (paper 01, "Join").
+// Sets an inactive id up with a client (paper 01, "Join"). Refused: 19, 4, 6, 7, 8, 9, 10.
 pub fn join(
     control: Control,
     clients: &mut [u32; CLIENTS],
@@ -283,6 +284,7 @@ pub fn join(
 }
 
 // Gives an active client new terms, and a new start where its type differs (paper 01, "Change").
+// Refused: 19, 4, 5, 7, 8, 9, 10.
 pub fn change(
     control: Control,
     clients: &mut [u32; CLIENTS],
@@ -310,7 +312,7 @@ pub fn change(
     tables::accepted(place_client(control, clients, id, kind, rate, burst))
 }
 
-// Takes an active client away, with all that it has (paper 01, "Leave").
+// Takes an active client away, with all that it has (paper 01, "Leave"). Refused: 19, 4, 5.
 pub fn leave(
     control: Control,
     clients: &mut [u32; CLIENTS],

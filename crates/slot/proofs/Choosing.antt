@@ -10,17 +10,17 @@ use lib.Dec.{eqb}
 use borrow.Author.Tests.{eq-eqb, ne-eqb}
 use Rattle.definitions.specs.Sizes.{ids, places, firstCome}
 use Rattle.definitions.specs.Draw.{sumBelow, targetOf, draw}
-use Rattle.definitions.specs.Client.{Kind, absent, indifferent, private, isPrivate, Client, empty}
+use Rattle.definitions.specs.Client.{Kind, indifferent, private, isPrivate, Client, empty}
 use Rattle.definitions.specs.State.{State, earliest}
 use Rattle.definitions.specs.Tick.{anyBelow, contends, ruleOf, contenderRate, privateRate, firstTurn, turnBy, turn}
 use Rattle.definitions.specs.Limits.{LimitsBy, standing, ordered}
-use Rattle.definitions.proofs.Laws.Tests.{true-false}
-use Rattle.definitions.proofs.Laws.Sums.{sumBelow-part, anyBelow-true}
+use Rattle.definitions.proofs.Laws.Clients.{private-kind}
+use Rattle.definitions.proofs.Laws.Sums.{sumBelow-same, sumBelow-part, anyBelow-true}
 use Rattle.definitions.proofs.Limits.Turns.{contends-contender}
 use Rattle.marks.specs.Marks.{marked}
 use Rattle.marks.proofs.Search.{anyBelow-cong}
 use Rattle.draw.specs.Weights.{weightAt}
-use Rattle.draw.proofs.Sums.{sumBelow-cong, drawnAt-cong}
+use Rattle.draw.proofs.Sums.{drawnAt-cong}
 use Rattle.order.specs.Order.{frontOf}
 use Rattle.order.specs.Owner.{owner}
 use Rattle.order.proofs.Walk.{ordered-walked}
@@ -82,12 +82,7 @@ module _ (c : Control) (t : Tables) (core : Sound-core c t) where
   contender-rated id e = limited id indifferent (contends-contender (clients id) e .indifferently) .active .rateLow
 
   private-rated : (id : ℕ) → isPrivate (clients id .kind) ≡ true → 1 ≤ clients id .rate
-  private-rated id e = limited id private (kind-of (clients id .kind) e) .active .rateLow
-    where
-      kind-of : (k : Kind) → isPrivate k ≡ true → k ≡ private
-      kind-of absent e = true-false e refl
-      kind-of indifferent e = true-false e refl
-      kind-of private e = refl
+  private-rated id e = limited id private (private-kind (clients id .kind) e) .active .rateLow
 
   -- a word of marks and the test of the definitions that it stands for
   module _ (word : ℕ) (test : Client → Bool) (agree : (id : ℕ) → id < ids → marked word id ≡ test (clients id))
@@ -104,7 +99,7 @@ module _ (c : Control) (t : Tables) (core : Sound-core c t) where
         → draw g (weightAt word (t .clients)) .id ≡ draw g (λ id. cond (test (clients id)) (clients id .rate) 0) .id
     unfolding draw targetOf
     draw-agrees g =
-        rw (sumBelow-cong ids (weightAt word (t .clients)) (λ id. cond (test (clients id)) (clients id .rate) 0) weight-agrees)
+        rw (sumBelow-same ids (weightAt word (t .clients)) (λ id. cond (test (clients id)) (clients id .rate) 0) weight-agrees)
         (drawnAt-cong (weightAt word (t .clients)) (λ id. cond (test (clients id)) (clients id .rate) 0) _ weight-agrees)
 
     total-positive : anyBelow ids (marked word) ≡ true → 0 < sumBelow ids (weightAt word (t .clients))

@@ -29,13 +29,13 @@ use Rattle.order.proofs.Walk.{ordered-walked}
 use Rattle.order.proofs.Taken.{placesOf-taken, taken-others, taken-withoutFirst}
 use Rattle.tables.specs.declared.Control.{Control}
 use Rattle.tables.specs.Tables.{Tables, tables, field, poolAt, headAt, countAt, ring}
-use Rattle.tables.specs.Meaning.{kindAt, packetAt, queueAt, clientAt, clientsOf, orderOf, stateOf}
+use Rattle.tables.specs.Meaning.{kindAt, packetAt, queueAt, clientAt, clientsOf, orderOf, stateOf, withWaiting}
 use Rattle.tables.specs.Invariant.{Shape}
 use Rattle.tables.proofs.Marking.{kind-indifferent, kind-private}
 use Rattle.tables.proofs.Fields.{only-set, field-own}
 use Rattle.tables.proofs.Ring.{placeOf, place-within, remainder-small, ring-pop-remainder}
 use Rattle.tables.proofs.Touch.{Touch, touch-clients, touch-shape, waits-here, client-own, rates-kept}
-use Rattle.slot.specs.Sends.{withWaiting, Settled, popped, Unlinked, Sender, stateAfter, Spent}
+use Rattle.slot.specs.Sends.{Settled, popped, Unlinked, Sender, stateAfter, Spent}
 use Rattle.slot.proofs.Choosing.{order-owners}
 
 module _ (c : Control) (t : Tables) (id : ℕ) (sender : Sender c t id) where

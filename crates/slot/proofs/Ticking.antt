@@ -1,12 +1,11 @@
 -- A tick, put together of its parts: a turn is done, and then the buckets are refilled. Assumes nothing.
-use Prim.Native.Nat.{ℕ, _≤_, _<_}
-use mathlib.Core.Path.{_≡_, refl, sym, ap, subst, _∙_}
+use Prim.Native.Nat.{ℕ, _<_}
+use mathlib.Core.Path.{_≡_, refl, sym, ap, _∙_}
 use mathlib.Core.Bool.{true, false}
 use mathlib.Core.List.{List}
 use Rattle.definitions.specs.declared.Call.the-variants.{Tick}
 use Rattle.definitions.specs.declared.Answer.the-variants.{Refused, Slot}
-use native.Mathlib.Omega.{arith}
-use Rattle.definitions.specs.Sizes.{ids, shares, burstLimit}
+use Rattle.definitions.specs.Sizes.{ids}
 use Rattle.definitions.specs.Client.{Kind, absent, indifferent, private, isIndifferent, Client, spent}
 use Rattle.definitions.specs.State.{State, Core, running, unopened}
 use Rattle.definitions.specs.Checks.{Result, refused}
@@ -16,7 +15,7 @@ use Rattle.definitions.specs.Limits.{StateLimits}
 use Rattle.definitions.proofs.Laws.Tests.{true-false}
 use Rattle.definitions.proofs.Laws.Clients.{sent-keeps}
 use Rattle.definitions.proofs.Limits.{step-limits}
-use Rattle.definitions.proofs.Limits.Client.{RateBy, BurstBy, Parts, limits-parts}
+use Rattle.definitions.proofs.Limits.Client.{BurstBy, rate-high, burst-high, Parts, limits-parts}
 use Rattle.marks.specs.Marks.{marked}
 use Rattle.tables.specs.declared.Control.{Control}
 use Rattle.tables.specs.declared.Answered.{Answered}
@@ -32,18 +31,7 @@ use Rattle.slot.specs.Buckets.{Refillable, Refilled}
 use Rattle.slot.specs.Slots.{unfilled, Done}
 use Rattle.slot.proofs.Refilling.{refill-shape, refill-state}
 
--- what the limits say of any client's rate and burst
-
-rate-high : (k : Kind) (rate : ℕ) → RateBy k rate → rate ≤ shares
-rate-high absent rate e = omega (arith, e)
-rate-high indifferent rate e = e .1
-rate-high private rate e = e .1
-
-burst-high : (k : Kind) (burst : ℕ) → BurstBy k burst → burst ≤ burstLimit
-burst-high absent burst e = omega (arith, e)
-burst-high indifferent burst e = e .1
-burst-high private burst e = omega (arith, e)
-
+-- only an indifferent client has a burst
 burst-none : (k : Kind) (burst : ℕ) → isIndifferent k ≡ false → BurstBy k burst → burst ≡ 0
 burst-none absent burst n e = e
 burst-none indifferent burst n e = true-false refl n

@@ -1,4 +1,5 @@
 -- What a client whose slot it is sends, and what is left of it in control and tables.
+-- "The one drawn sends its first packet; without one, a dummy" (paper 01).
 use Prim.Native.Nat.{ℕ, _+_, _*_, _-_, _%_, _<_}
 use mathlib.Core.Path.{_≡_}
 use mathlib.Core.Logic.{_≢_}
@@ -15,22 +16,9 @@ use Rattle.marks.specs.Marks.{marked}
 use Rattle.order.specs.Order.{Sound, Ordered}
 use Rattle.tables.specs.declared.Control.{Control}
 use Rattle.tables.specs.Tables.{Tables, headAt, countAt}
-use Rattle.tables.specs.Meaning.{clientsOf, orderOf, stateOf}
+use Rattle.tables.specs.Meaning.{clientsOf, orderOf, stateOf, withWaiting}
 use Rattle.tables.specs.Invariant.{Shape, Sound-core}
 use Rattle.slot.specs.declared.Sent.{Sent}
-
--- control with the ids that wait anew
-abbrev pub withWaiting : Control → ℕ → Control
-withWaiting c word = record {
-  opened = c .opened;
-  threshold = c .threshold;
-  discipline = c .discipline;
-  generator = c .generator;
-  rates = c .rates;
-  indifferent = c .indifferent;
-  private = c .private;
-  waiting = word;
-}
 
 -- an id has lost its mark if it has no packet left
 pub record Settled (c : Control) (left id : ℕ) (d : Control) : Type 0 where

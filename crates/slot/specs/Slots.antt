@@ -1,4 +1,5 @@
 -- A slot before its refill: what the one whose slot it is has sent.
+-- "A slot goes by the first of the tick's rules 1 to 3 that applies" (paper 01).
 use mathlib.Core.Path.{_≡_}
 use Rattle.definitions.specs.State.{State}
 use Rattle.definitions.specs.Tick.{Turn, turn, outcomeBy, clientsAfter, orderAfter}

@@ -1,4 +1,5 @@
 -- Whose slot it is, as the code says it: the rule by its number in the paper.
+-- "A slot goes by the first of the tick's rules 1 to 3 that applies" (paper 01).
 use Prim.Native.Nat.{ℕ}
 use mathlib.Core.Path.{_≡_}
 use mathlib.Core.List.{List}

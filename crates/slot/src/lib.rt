@@ -17,6 +17,7 @@ use tables::HEAD;
 use tables::LEVEL;
 use tables::POOL;
 use tables::STORE;
+use tables::UNOPENED;
 ghost use mathlib.Core.Path.{_≡_};
 ghost use mathlib.Core.Bool.{cond};
 ghost use mathlib.Core.List.{List};
@@ -47,11 +48,12 @@ const FIRST_BURST: usize = BURST as usize;
 
 const FIRST_LEVEL: usize = LEVEL as usize;
 
-// The number of the rule by which a slot has nobody.
-const NOBODY: u32 = 3;
+// The rules of the paper by which a slot goes, by their numbers.
+const INDIFFERENT_FIRST: u32 = 1;
 
-// What a tick of an unopened core is refused with.
-const UNOPENED: u32 = 19;
+const PRIVATE_DRAW: u32 = 2;
+
+const NOBODY: u32 = 3;
 
 // Whose slot it is: by which of the paper's rules, whose id, and the generator after the pick.
 struct Choice {
@@ -76,7 +78,8 @@ fn draw_among(rule: u32, word: u64, clients: &[u32; CLIENTS], generator: Generat
     }
 }
 
-// The first of rules 1 to 3 that applies, and whom it picks. The private are drawn among whether they wait or not.
+// The first of rules 1 to 3 that applies, and whom it picks: "no mark among the indifferent means that none of them waits".
+// The private are drawn among whether they wait or not.
 fn turn(control: Control, clients: &[u32; CLIENTS], links: &[u32; LINKS]) -> Choice
     requires { ⌜ Sound-with control (now clients) (now links) ⌝ }
     ensures { λ r. ⌜ ((h l : List ℕ) → Sound-core control (tables (now (clients .entry)) h l (now (links .entry)))
@@ -86,16 +89,16 @@ fn turn(control: Control, clients: &[u32; CLIENTS], links: &[u32; LINKS]) -> Cho
     let contenders = marks::both(control.waiting, control.indifferent);
     if marks::any(contenders) {
         if control.discipline != FIRST_COME {
-            return draw_among(1, contenders, clients, generator);
+            return draw_among(INDIFFERENT_FIRST, contenders, clients, generator);
         }
         return Choice {
-            rule: 1,
+            rule: INDIFFERENT_FIRST,
             id: order::front(links) / PLACES,
             generator,
         };
     }
     if marks::any(control.private) {
-        return draw_among(2, control.private, clients, generator);
+        return draw_among(PRIVATE_DRAW, control.private, clients, generator);
     }
     Choice {
         rule: NOBODY,
@@ -134,7 +137,7 @@ fn padding(control: Control, id: u32, length: u32) -> u32
     }
 }
 
-// Takes the first packet out of an id's queue. Its place is free again.
+// Takes the first packet out of an id's queue: "a place is used again once its packet has gone".
 fn pop(clients: &mut [u32; CLIENTS], id: u32)
     requires { ⌜ (id < ids) × (headAt (now clients) id < places) × (0 < countAt (now clients) id) ⌝ }
     ensures { λ r. ⌜ now (clients .exit) ≡ popped (now (clients .entry)) id ⌝ }
@@ -164,17 +167,9 @@ fn settle(control: Control, left: u32, id: u32) -> Control
     if left != 0 {
         return control;
     }
-    let generator = control.generator;
-    Control {
-        opened: control.opened,
-        threshold: control.threshold,
-        discipline: control.discipline,
-        generator,
-        rates: control.rates,
-        indifferent: control.indifferent,
-        private: control.private,
-        waiting: marks::unmark(control.waiting, id),
-    }
+    let mut after = control;
+    after.waiting = marks::unmark(control.waiting, id);
+    after
 }
 
 // An id sends its first packet: it goes from the queue, from the order and, with the last one, from the marks.
@@ -254,6 +249,7 @@ fn spend(
         (tables (now (clients .entry)) (now (handles .entry)) (now (lengths .entry)) (now (links .entry))) r
         (tables (now (clients .exit)) (now (handles .entry)) (now (lengths .entry)) (now (links .exit))) ⌝ }
 {
+    // the borrow checker covers no store to a field that is a struct, so the control is made anew
     let generator = choice.generator;
     let after = Control {
         opened: control.opened,
@@ -320,7 +316,7 @@ fn refill_each(word: u64, clients: &mut [u32; CLIENTS])
     }
 }
 
-// One slot (paper 01, "Tick is one slot"): rules 1 to 3 say whose it is, and rule 4 refills after the pick.
+// One slot (paper 01, "Tick is one slot"): rules 1 to 3 say whose it is, and rule 4 refills after the pick. Refused: 19.
 pub fn tick(
     control: Control,
     clients: &mut [u32; CLIENTS],

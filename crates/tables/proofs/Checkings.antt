@@ -1,7 +1,7 @@
 -- Which checks each call goes through, and what it makes of a state where they are passed: the definitions, read off.
 -- Assumes nothing.
 use Prim.Native.Nat.{ℕ}
-use mathlib.Core.Path.{_≡_, refl}
+use mathlib.Core.Path.{refl}
 use Rattle.definitions.specs.declared.Packet.{Packet}
 use Rattle.definitions.specs.declared.Call.the-variants.{Join, Change, Leave, Load, Arrive}
 use Rattle.definitions.specs.Client.{nobody, joining, changed, loaded, queued}

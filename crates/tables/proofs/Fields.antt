@@ -5,11 +5,10 @@ use mathlib.Core.Path.{_≡_, refl, sym, ap, _∙_}
 use mathlib.Core.Logic.{_≢_}
 use mathlib.Core.Bool.{cond}
 use mathlib.Core.List.{List}
-use native.Mathlib.Omega.{arith}
 use native.Mathlib.Nat.{mod-lt}
 use lib.Arith.{digits-div, digits-mod}
 use lib.Dec.{eqb, lit<}
-use lib.ListN.{length, getD, set}
+use lib.ListN.{length, set}
 use lib.Seq.{getD-set-same, getD-set-other}
 use Rattle.definitions.specs.Sizes.{ids, places}
 use Rattle.definitions.proofs.Laws.Tests.{eqb-cases}
@@ -57,11 +56,11 @@ OnlyAt id xs ys = (m j : ℕ) → j < ids → j ≢ id → field m ys j ≡ fiel
 pub only-set : (xs ys : List ℕ) (k id v : ℕ) → id < ids → OnlyAt id xs ys → OnlyAt id xs (set ys (k * ids + id) v)
 only-set xs ys k id v h only m j l other = field-set-id ys k id v h m j l other ∙ only m j l other
 
--- the places of an id are its own
-places-positive : 0 < places
+pub places-positive : 0 < places
 unfolding places
 places-positive = lit< tt
 
+-- the places of an id are its own
 pub place-owner : (id h : ℕ) → owner (id * places + h % places) ≡ id
 unfolding owner
 place-owner id h = digits-div id (mod-lt h places-positive)

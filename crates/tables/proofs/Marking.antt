@@ -1,8 +1,8 @@
 -- What the marks say of an id's kind. By cases on the marks. Assumes nothing.
 use Prim.Native.Nat.{ℕ}
-use mathlib.Core.Path.{_≡_, refl, sym, _∙_}
+use mathlib.Core.Path.{_≡_, refl}
 use mathlib.Core.Bool.{Bool, true, false, cond}
-use Rattle.definitions.specs.Client.{Kind, absent, indifferent, private, isActive, isIndifferent, isPrivate}
+use Rattle.definitions.specs.Client.{absent, indifferent, private, isIndifferent, isPrivate}
 use Rattle.definitions.proofs.Laws.Tests.{true-false}
 use Rattle.marks.specs.Marks.{marked}
 use Rattle.tables.specs.declared.Control.{Control}

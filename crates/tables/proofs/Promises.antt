@@ -7,17 +7,14 @@ use mathlib.Core.Bool.{Bool, true, false, cond, not, _&&_}
 use mathlib.Core.List.{List, [], _∷_}
 use native.Mathlib.Omega.{arith}
 use lib.Dec.{T, eqb}
-use borrow.Author.Tests.{eqb-false}
 use Rattle.definitions.specs.declared.Call.{Call}
 use Rattle.definitions.specs.declared.Answer.the-variants.{Accepted, Refused}
 use Rattle.definitions.specs.State.{State, Core, running, unopened}
 use Rattle.definitions.specs.Checks.{Result, Check, accepted, refused, checked}
 use Rattle.definitions.specs.Core.{step}
 use Rattle.definitions.specs.Limits.{StateLimits, CoreLimits}
-use Rattle.definitions.specs.Bound.{isOpen}
-use Rattle.definitions.proofs.Laws.Tests.{true-false, T-and}
+use Rattle.definitions.proofs.Laws.Tests.{T-and}
 use Rattle.definitions.proofs.Laws.Checked.{Passed}
-use Rattle.definitions.proofs.Facts.{unopened-refuses}
 use Rattle.definitions.proofs.Limits.{step-limits}
 use Rattle.tables.specs.declared.Control.{Control}
 use Rattle.tables.specs.declared.Answered.{Answered}

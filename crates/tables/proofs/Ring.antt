@@ -1,19 +1,18 @@
 -- The places of a queue, as a ring among the 32 of its id: it grows at its end, and is taken from at its front.
 -- Two of its numbers are one place only 32 apart. By recursion on the count of packets. Assumes nothing.
 use Prim.Native.Nat.{ℕ, zero, suc, _+_, _*_, _%_, _≤_, _<_}
-use mathlib.Core.Path.{_≡_, refl, ap, ap₂, subst, _∙_}
+use mathlib.Core.Path.{_≡_, refl, ap, ap₂, _∙_}
 use mathlib.Core.Logic.{_≢_}
 use mathlib.Core.List.{List, [], _∷_, _++_, map}
 use native.Mathlib.Omega.{arith}
-use lib.ListN.{length}
+use lib.ListN.{length, length-map}
 use Rattle.definitions.specs.declared.Packet.{Packet}
 use Rattle.definitions.specs.Sizes.{ids, places}
-use Rattle.order.specs.Order.{sentinel, All, Absent, Distinct}
-use Rattle.order.specs.Owner.{owner}
+use Rattle.order.specs.Order.{sentinel, All, Absent}
 use Rattle.order.proofs.Owner.{place-below}
 use Rattle.tables.specs.Tables.{Tables, headAt, countAt, ring}
 use Rattle.tables.specs.Meaning.{packetAt, queueAt}
-use Rattle.tables.proofs.Fields.{place-owner, ring-length}
+use Rattle.tables.proofs.Fields.{ring-length}
 
 -- the place of an id that a number of its ring stands for
 abbrev pub placeOf : ℕ → ℕ → ℕ
@@ -34,10 +33,6 @@ remainder-suc a b e = omega arith
 remainder-apart : (a b : ℕ) → a < b → b < a + places → b % places ≢ a % places
 unfolding places
 remainder-apart a b l h = omega arith
-
-remainder-round : (a : ℕ) → (a + places) % places ≡ a % places
-unfolding places
-remainder-round a = omega arith
 
 module _ (id : ℕ) where
   pub place-within : id < ids → (k : ℕ) → placeOf id k < sentinel
@@ -73,16 +68,6 @@ module _ (id : ℕ) where
   pub ring-pop-remainder : (head n : ℕ) → ring id head (suc n) ≡ placeOf id head ∷ ring id (suc head % places) n
   ring-pop-remainder head n = rw (ring-remainder (suc head) n) (ring-pop head n)
 
-  pub ring-owner : (head n : ℕ) → All (λ p. owner p ≡ id) (ring id head n)
-  unfolding ring
-  ring-owner head zero = tt
-  ring-owner head (suc n) = (place-owner id head, ring-owner (suc head) n)
-
-  pub ring-within : id < ids → (head n : ℕ) → All (λ p. p < sentinel) (ring id head n)
-  unfolding ring
-  ring-within below head zero = tt
-  ring-within below head (suc n) = (place-within below head, ring-within below (suc head) n)
-
   -- a number behind a ring that does not close
   pub ring-behind : (k head n : ℕ) → head + n ≤ k → k < head + places → Absent (placeOf id k) (ring id head n)
   unfolding ring
@@ -94,17 +79,6 @@ module _ (id : ℕ) where
   pub ring-free : (head n : ℕ) → n < places → Absent (placeOf id (head + n)) (ring id head n)
   ring-free head n room = ring-behind (head + n) head n (omega arith) (omega arith)
 
-  -- the place that is taken out stands nowhere in what is left
-  pub ring-left : (head n : ℕ) → n < places → Absent (placeOf id head) (ring id (suc head) n)
-  ring-left head n room =
-      subst (λ (x : ℕ). Absent (id * places + x) (ring id (suc head) n)) (remainder-round head)
-      (ring-behind (head + places) (suc head) n (omega arith) (omega arith))
-
-  pub ring-distinct : (head n : ℕ) → n ≤ places → Distinct (ring id head n)
-  unfolding ring
-  ring-distinct head zero room = tt
-  ring-distinct head (suc n) room = (ring-left head n (omega arith), ring-distinct (suc head) n (omega arith))
-
 -- packets that are the same at each place of a list
 pub packets-same : (t u : Tables) (order : List ℕ) → All (λ p. packetAt u p ≡ packetAt t p) order
     → map (packetAt u) order ≡ map (packetAt t) order
@@ -115,13 +89,9 @@ pub packets-append : (t : Tables) (xs ys : List ℕ) → map (packetAt t) (xs ++
 packets-append t [] ys = refl
 packets-append t (x ∷ xs) ys = ap (λ (r : List Packet). packetAt t x ∷ r) (packets-append t xs ys)
 
-packets-length : (t : Tables) (order : List ℕ) → length (map (packetAt t) order) ≡ length order
-packets-length t [] = refl
-packets-length t (p ∷ order) = ap suc (packets-length t order)
-
 -- a queue has as many packets as its count says
 pub queue-length : (t : Tables) (id : ℕ) → length (queueAt t id) ≡ countAt (t .clients) id
 unfolding queueAt
 queue-length t id =
-    packets-length t (ring id (headAt (t .clients) id) (countAt (t .clients) id))
+    length-map (ring id (headAt (t .clients) id) (countAt (t .clients) id)) (packetAt t)
     ∙ ring-length id (headAt (t .clients) id) (countAt (t .clients) id)

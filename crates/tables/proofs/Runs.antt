@@ -3,19 +3,17 @@
 use Prim.Native.Nat.{ℕ}
 use mathlib.Core.Path.{_≡_, ap, _∙_}
 use Rattle.definitions.specs.declared.Call.{Call}
-use Rattle.definitions.specs.declared.Answer.{Answer}
 use Rattle.definitions.specs.State.{Core}
-use Rattle.definitions.specs.Checks.{Result}
 use Rattle.definitions.specs.Core.{step}
-use Rattle.definitions.specs.History.{History, end, calls, clientOf, scheduler}
-use Rattle.definitions.specs.Sameness.{after, answerAt, kept, LooksSame, Sameness}
+use Rattle.definitions.specs.History.{History, end, calls, scheduler}
+use Rattle.definitions.specs.Sameness.{after, answerAt, SameHoldings, LooksSame, Sameness}
 use Rattle.definitions.proofs.Sameness.Theorem.{sameness}
 use Rattle.tables.specs.declared.Control.{Control}
 use Rattle.tables.specs.declared.Answered.{Answered}
 use Rattle.tables.specs.Tables.{Tables}
 use Rattle.tables.specs.Meaning.{coreOf}
 use Rattle.tables.specs.Promise.{Meets}
-use Rattle.tables.specs.Run.{Run, begun, called}
+use Rattle.tables.specs.Run.{Run, begun, called, AlikeIn, CodeSameness}
 
 -- the tables mean the core that the definitions reach
 pub run-core : {h : History} {c : Control} {t : Tables} → Run h c t → coreOf c t ≡ after scheduler h
@@ -31,26 +29,18 @@ pub run-answer : {h : History} {c : Control} {t u : Tables} {call : Call} {r : A
 unfolding answerAt
 run-answer {call = call} run m = m .answer ∙ ap (λ (x : Core). step x call .answer) (run-core run)
 
--- Demand 3 for the code. The answers of two runs are those of the definitions, by `run-answer`, so what is logged of them is
--- compared by `LooksSame`; and what the tables of the two runs mean of the chosen client is the same.
-pub record CodeSame (chosen : ℕ) (H K : History) (x y : Core) : Type 0 where
-  pub logs : LooksSame scheduler chosen H K
-  pub queue : clientOf x chosen .queue ≡ clientOf y chosen .queue
-  pub pool : clientOf x chosen .pool ≡ clientOf y chosen .pool
-  pub level : clientOf x chosen .level ≡ clientOf y chosen .level
-
-pub run-sameness : (chosen : ℕ) {H K : History} {c d : Control} {t u : Tables}
-    → Run H c t
-    → Run K d u
-    → kept scheduler chosen H ≡ kept scheduler chosen K
-    → CodeSame chosen H K (coreOf c t) (coreOf d u)
-unfolding Sameness
-run-sameness chosen {H} {K} run other e = rw (run-core run, run-core other) (record {
+-- Demand 3 for the code. The answers of two runs are those of the definitions, by `run-answer`, and their cores too, by
+-- `run-core`.
+pub run-sameness : CodeSameness
+unfolding CodeSameness Sameness
+run-sameness chosen H K c d t u run other e = rw (run-core run, run-core other) (record {
   logs = looks;
-  queue = looks .chosenHoldings .queue;
-  pool = looks .chosenHoldings .pool;
-  level = looks .chosenHoldings .level;
+  chosenAlike = alike chosen (looks .chosenHoldings);
+  indifferentAlike = λ id w. alike id (looks .indifferentHoldings id w);
 })
   where
     looks : LooksSame scheduler chosen H K
     looks = sameness chosen H K e H K end end (ap calls e)
+
+    alike : (id : ℕ) → SameHoldings scheduler id H K → AlikeIn (after scheduler H) (after scheduler K) id
+    alike id same = record { queue = same .queue; pool = same .pool; level = same .level }

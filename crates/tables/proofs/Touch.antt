@@ -10,7 +10,7 @@ use lib.Dec.{eqb, ltb}
 use borrow.Author.Tests.{lt-ltb, ltb-true}
 use Rattle.definitions.specs.declared.Packet.{Packet}
 use Rattle.definitions.specs.Sizes.{ids, places}
-use Rattle.definitions.specs.Client.{Kind, isIndifferent, Client, nobody}
+use Rattle.definitions.specs.Client.{isIndifferent, Client, nobody}
 use Rattle.definitions.specs.State.{put}
 use Rattle.definitions.specs.Checks.{rates}
 use Rattle.definitions.proofs.Laws.Tests.{eqb-cases}
@@ -20,7 +20,7 @@ use Rattle.marks.specs.Marks.{marked}
 use Rattle.order.specs.Order.{Sound, Ordered}
 use Rattle.order.specs.Owner.{owner, placesOf}
 use Rattle.tables.specs.declared.Control.{Control}
-use Rattle.tables.specs.Tables.{Tables, field, headAt, countAt, ring}
+use Rattle.tables.specs.Tables.{Tables, headAt, countAt, ring}
 use Rattle.tables.specs.Meaning.{kindAt, packetAt, queueAt, clientAt, clientsOf}
 use Rattle.tables.specs.Invariant.{Sized, Shape}
 use Rattle.tables.proofs.Fields.{OnlyAt, place-owner}

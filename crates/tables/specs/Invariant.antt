@@ -1,7 +1,7 @@
--- When control and tables are sound: what opening establishes and every call keeps.
+-- When control and tables are valid: what opening establishes and every call keeps.
 use Prim.Native.Nat.{ℕ, _*_, _<_}
 use mathlib.Core.Path.{_≡_}
-use mathlib.Core.Bool.{Bool, true, false, cond, not, _&&_}
+use mathlib.Core.Bool.{true, false, cond, not, _&&_}
 use mathlib.Core.List.{List, []}
 use lib.Dec.{ltb, eqb}
 use lib.ListN.{length}
@@ -26,7 +26,7 @@ pub record Sized (t : Tables) : Type 0 where
 pub record Shape (c : Control) (t : Tables) : Type 0 where
   pub sizes : Sized t
   pub heads : (id : ℕ) → id < ids → headAt (t .clients) id < places
-  -- a mark for each id with packets waiting
+  -- "The ids that have packets waiting are one word of 64 marks"
   pub waits : (id : ℕ) → marked (c .waiting) id ≡ ltb id ids && not (eqb (countAt (t .clients) id) 0)
   -- no id is of both types
   pub apart : (id : ℕ) → marked (c .private) id ≡ true → marked (c .indifferent) id ≡ false

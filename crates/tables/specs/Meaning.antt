@@ -1,7 +1,7 @@
 -- What control and tables mean: a state of the definitions. Where a queue begins, what its unused places hold and how the
 -- order is linked do not show in it.
 use Prim.Native.Nat.{ℕ}
-use mathlib.Core.Bool.{Bool, true, false, cond}
+use mathlib.Core.Bool.{cond}
 use mathlib.Core.List.{List, map}
 use lib.Dec.{ltb}
 use lib.ListN.{getD}
@@ -51,3 +51,16 @@ stateOf c t = record {
 
 unfoldable pub coreOf : Control → Tables → Core
 coreOf c t = cond (c .opened) (running (stateOf c t)) unopened
+
+-- control with the ids that wait anew
+abbrev pub withWaiting : Control → ℕ → Control
+withWaiting c word = record {
+  opened = c .opened;
+  threshold = c .threshold;
+  discipline = c .discipline;
+  generator = c .generator;
+  rates = c .rates;
+  indifferent = c .indifferent;
+  private = c .private;
+  waiting = word;
+}

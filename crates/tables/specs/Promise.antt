@@ -1,8 +1,7 @@
--- What a call promises: answer and core after are what the definitions give for the arguments and the core before,
--- refused calls too, and the tables stay sound.
+-- What a call promises (paper 01): "answer and state are what this document's definitions give for the arguments and the
+-- state before, refused calls too". And the tables stay valid.
 use mathlib.Core.Path.{_≡_}
 use Rattle.definitions.specs.declared.Call.{Call}
-use Rattle.definitions.specs.Checks.{Result}
 use Rattle.definitions.specs.Core.{step}
 use Rattle.tables.specs.declared.Control.{Control}
 use Rattle.tables.specs.declared.Answered.{Answered}

@@ -44,6 +44,9 @@ pub const COUNT: u32 = 5 * IDS;
 // The places of the waiting packets.
 pub const STORE: usize = (IDS * PLACES) as usize;
 
+// What every call but open is refused with while the core is unopened.
+pub const UNOPENED: u32 = 19;
+
 pub fn refused(control: Control, number: u32) -> Answered
     ensures { λ r. ⌜ r ≡ record { control = control; answer = Answer.Refused number } ⌝ }
 {

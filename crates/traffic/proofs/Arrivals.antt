@@ -22,7 +22,7 @@ use Rattle.order.proofs.Owner.{placesOf-absent}
 use Rattle.tables.specs.declared.Control.{Control}
 use Rattle.tables.specs.declared.Answered.{Answered}
 use Rattle.tables.specs.Tables.{Tables, field, levelAt, headAt, countAt}
-use Rattle.tables.specs.Meaning.{kindAt, clientAt, clientsOf, stateOf}
+use Rattle.tables.specs.Meaning.{kindAt, clientAt, clientsOf, stateOf, withWaiting}
 use Rattle.tables.specs.Invariant.{Shape, Sound-core, Valid}
 use Rattle.tables.specs.Numbers.{refusal}
 use Rattle.tables.specs.Promise.{Meets}
@@ -30,7 +30,7 @@ use Rattle.tables.proofs.Promises.{refused-with, opened, all-passed, sound-befo
 use Rattle.tables.proofs.Checkings.{arrives}
 use Rattle.tables.proofs.Fields.{OnlyAt, only-set, field-own}
 use Rattle.tables.proofs.Ring.{place-within, ring-free, queue-length}
-use Rattle.traffic.proofs.Arriving.{freePlace, place-own, arrivedTables, waitingControl, Counted, Lined}
+use Rattle.traffic.proofs.Arriving.{freePlace, place-own, arrivedTables, Counted, Lined}
 use Rattle.traffic.proofs.Arriving.{arrived-shape, arrived-state}
 
 -- the clients' table with the count raised, and then with the packet paid
@@ -149,11 +149,11 @@ module _ (c : Control) (t : Tables) (valid : Valid c t) (id : ℕ) (p : Packet) 
     pub arrive-accepted : (clients links : List ℕ) (waiting : ℕ) → Counted c t id clients
         → Lined c t id (arrive-sound .shape .order) links
         → ((j : ℕ) → marked waiting j ≡ marked (c .waiting) j || (eqb j id && ltb id ids))
-        → (r : Answered) → r ≡ record { control = waitingControl c waiting; answer = Accepted }
+        → (r : Answered) → r ≡ record { control = withWaiting c waiting; answer = Accepted }
         → Meets (Arrive id p) c t r (arrivedTables t id p clients links)
     unfolding arrives
     arrive-accepted clients links waiting counted lined marks r e =
-        accepted-with (Arrive id p) (arrives id p) c t valid none r (waitingControl c waiting)
+        accepted-with (Arrive id p) (arrives id p) c t valid none r (withWaiting c waiting)
         (arrivedTables t id p clients links) e
         (opened (Arrive id p) (arrives id p) c t valid none)
         (arrived-state c t (arrive-sound .shape) id p arrive-below arrive-room clients links waiting counted lined marks)

@@ -25,7 +25,7 @@ use Rattle.order.proofs.Owner.{map-owner-append, placesOf-push-own, placesOf-pu
 use Rattle.order.proofs.Walk.{ordered-walked}
 use Rattle.tables.specs.declared.Control.{Control}
 use Rattle.tables.specs.Tables.{Tables, tables, field, levelAt, headAt, countAt, ring}
-use Rattle.tables.specs.Meaning.{kindAt, packetAt, queueAt, clientAt, clientsOf, orderOf, stateOf}
+use Rattle.tables.specs.Meaning.{kindAt, packetAt, queueAt, clientAt, clientsOf, orderOf, stateOf, withWaiting}
 use Rattle.tables.specs.Invariant.{Shape}
 use Rattle.tables.specs.Numbers.{firstFailed, refusal}
 use Rattle.tables.proofs.Fields.{OnlyAt, place-owner}
@@ -57,19 +57,6 @@ place-own t id = place-owner id (headAt (t .clients) id + countAt (t .clients) i
 abbrev pub arrivedTables : Tables → ℕ → Packet → List ℕ → List ℕ → Tables
 arrivedTables t id p clients links =
     tables clients (set (t .handles) (freePlace t id) (p .handle)) (set (t .lengths) (freePlace t id) (p .length)) links
-
--- the control after, with the word of the ids that have packets anew
-abbrev pub waitingControl : Control → ℕ → Control
-waitingControl c waiting = record {
-  opened = c .opened;
-  threshold = c .threshold;
-  discipline = c .discipline;
-  generator = c .generator;
-  rates = c .rates;
-  indifferent = c .indifferent;
-  private = c .private;
-  waiting = waiting;
-}
 
 -- what the clients' table after says: one packet more, which an indifferent client has paid
 pub record Counted (c : Control) (t : Tables) (id : ℕ) (clients : List ℕ) : Type 0 where
@@ -132,7 +119,7 @@ module _ (c : Control) (t : Tables) (old : Shape c t) (id : ℕ) (p : Packet) (b
       ap (map (packetAt after)) ring-after ∙ packets-append after taken (place ∷ [])
       ∙ ap₂ (λ (xs : List Packet) (x : Packet). xs ++ (x ∷ [])) waiting-same packet-here
 
-  client-after : clientAt (waitingControl c waiting) after id ≡ queued (clientAt c t id) p
+  client-after : clientAt (withWaiting c waiting) after id ≡ queued (clientAt c t id) p
   unfolding clientAt queued kindAt
   client-after = λ i. record {
     kind = kindAt c id;
@@ -165,7 +152,7 @@ module _ (c : Control) (t : Tables) (old : Shape c t) (id : ℕ) (p : Packet) (b
       ∙ ap (λ (x : ℕ). map owner (old .order) ++ (x ∷ [])) (place-own t id)
   owners-after false = refl
 
-  touch : Touch c t old (waitingControl c waiting) after id
+  touch : Touch c t old (withWaiting c waiting) after id
   unfolding held clientAt kindAt
   touch = record {
     below = below;
@@ -182,7 +169,7 @@ module _ (c : Control) (t : Tables) (old : Shape c t) (id : ℕ) (p : Packet) (b
     head = rw (counted .head) (old .heads id below);
     waits = marks id ∙ rw (eqb-same id, lt-ltb id ids below, counted .count, eqb·suc-zero) (or-true (marked (c .waiting) id));
     apart = old .apart id;
-    ratesHeld = rates-kept c t old id below (clientAt (waitingControl c waiting) after id) (rw (counted .rate));
+    ratesHeld = rates-kept c t old id below (clientAt (withWaiting c waiting) after id) (rw (counted .rate));
     sound = lined .sound;
     order = behind (isIndifferent (kindAt c id));
     ordered = lined .ordered;
@@ -190,8 +177,8 @@ module _ (c : Control) (t : Tables) (old : Shape c t) (id : ℕ) (p : Packet) (b
     others = others-after (isIndifferent (kindAt c id));
   }
 
-  pub arrived-shape : Shape (waitingControl c waiting) (arrivedTables t id p clients links)
-  arrived-shape = touch-shape c t old (waitingControl c waiting) after id touch
+  pub arrived-shape : Shape (withWaiting c waiting) (arrivedTables t id p clients links)
+  arrived-shape = touch-shape c t old (withWaiting c waiting) after id touch
 
   order-before : orderOf t ≡ map owner (old .order)
   unfolding orderOf
@@ -208,14 +195,14 @@ module _ (c : Control) (t : Tables) (old : Shape c t) (id : ℕ) (p : Packet) (b
       (ap (map owner) (ordered-walked links (behind (isIndifferent (kindAt c id))) (lined .ordered))
       ∙ owners-after (isIndifferent (kindAt c id)))
 
-  pub arrived-state : stateOf (waitingControl c waiting) (arrivedTables t id p clients links)
+  pub arrived-state : stateOf (withWaiting c waiting) (arrivedTables t id p clients links)
       ≡ updated (stateOf c t) id (queued (stateOf c t .clients id) p) (orderAfterArrival (stateOf c t) id)
   unfolding stateOf updated
   arrived-state = λ i. record {
     threshold = c .threshold;
     discipline = c .discipline;
     generator = c .generator .value;
-    clients = (touch-clients c t old (waitingControl c waiting) after id touch
+    clients = (touch-clients c t old (withWaiting c waiting) after id touch
         ∙ ap (put (clientsOf c t) id) (client-after ∙ ap (λ (x : Client). queued x p) (sym (client-own c t old id below)))) i;
     order = order-after i;
   }

@@ -1,4 +1,4 @@
-// What tenants and their neighbours send: dummies for a private pool, and packets.
+// What comes in for a client: dummies for a private pool, and packets.
 use definitions::IDS;
 use definitions::LONGEST;
 use definitions::PLACES;
@@ -15,6 +15,7 @@ use tables::HEAD;
 use tables::LEVEL;
 use tables::POOL;
 use tables::STORE;
+use tables::UNOPENED;
 ghost use mathlib.Core.Path.{_≡_};
 ghost use mathlib.Core.List.{List};
 ghost use lib.ListN.{set};
@@ -33,7 +34,7 @@ fn load_number(control: Control, clients: &[u32; CLIENTS], id: u32, dummies: u32
         → r ≡ refusal control (tables (now (clients .entry)) h l k) (λ s. loadChecks s id dummies)) ⌝ }
 {
     if !control.opened {
-        return 19;
+        return UNOPENED;
     }
     if IDS <= id {
         return 4;
@@ -50,7 +51,7 @@ fn load_number(control: Control, clients: &[u32; CLIENTS], id: u32, dummies: u32
     0
 }
 
-// Adds dummies to a private client's pool (paper 01, "Load").
+// Adds dummies to a private client's pool (paper 01, "Load"). Refused: 19, 4, 5, 11, 12.
 pub fn load(
     control: Control,
     clients: &mut [u32; CLIENTS],
@@ -80,7 +81,7 @@ fn arrive_number(control: Control, clients: &[u32; CLIENTS], id: u32, packet: Pa
         → r ≡ refusal control (tables (now (clients .entry)) h l k) (λ s. arriveChecks s id packet)) ⌝ }
 {
     if !control.opened {
-        return 19;
+        return UNOPENED;
     }
     if IDS <= id {
         return 4;
@@ -146,7 +147,8 @@ fn charge(clients: &mut [u32; CLIENTS], id: u32)
     clients[at] = clients[at] - SHARES;
 }
 
-// Puts a packet last in its client's queue (paper 01, "Arrive"). It costs the same however many packets wait.
+// Puts a packet last in its client's queue (paper 01, "Arrive"). Refused: 19, 4, 5, 13, 14, 15.
+// It costs the same however many packets wait.
 pub fn arrive(
     control: Control,
     clients: &mut [u32; CLIENTS],

@@ -3,14 +3,6 @@ use native.Mathlib.Omega.{arith}
 use borrow.Author.Needs.{needs}
 use Rattle.bench.proofs.bench_run.Statement.{statement}
 use Rattle.bench.proofs.bench_run.Tie as tie
-use Rattle.bench.proofs.bench_run.Reads as reads
-use Rattle.bench.proofs.bench_run.Lts as lts
-use Rattle.bench.proofs.fill_queues.Reads as fill-queues-reads
-use Rattle.bench.proofs.join_all.Reads as join-all-reads
-use Rattle.bench.proofs.refused_rounds.Reads as refused-rounds-reads
-use Rattle.bench.proofs.traffic_rounds.Reads as traffic-rounds-reads
-use Rattle.opening.proofs.open.Reads as open-reads
-use Rattle.opening.proofs.unopened.Reads as unopened-reads
 
 returns : tie.Need-returns
 returns c = search needs

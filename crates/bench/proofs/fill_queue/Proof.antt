@@ -1,14 +1,10 @@
 -- `bench::fill_queue` meets its contract: the calls keep the core valid. Assumes nothing.
 use borrow.Author.Needs.{needs}
-use native.Mathlib.Omega.{arith}
-use Prim.Native.Nat.{_+_, _*_, _-_, _≤_}
+use Prim.Native.Nat.{_-_, _≤_}
 use Rattle.tables.specs.Tables.{tables}
 use Rattle.tables.specs.Invariant.{Valid}
 use Rattle.bench.proofs.fill_queue.Statement.{statement}
 use Rattle.bench.proofs.fill_queue.Tie as tie
-use Rattle.bench.proofs.fill_queue.Reads as reads
-use Rattle.bench.proofs.fill_queue.Lts as lts
-use Rattle.traffic.proofs.arrive.Reads as arrive-reads
 
 abbrev Inv-loop : tie.InvT-loop
 Inv-loop clients₀ handles₀ lengths₀ links₀ id each at₀ k₀ clients handles lengths links at k =

@@ -1,14 +1,10 @@
 -- `bench::fill_queues` meets its contract: the calls keep the core valid. Assumes nothing.
 use borrow.Author.Needs.{needs}
-use native.Mathlib.Omega.{arith}
-use Prim.Native.Nat.{_+_, _*_, _-_, _≤_}
+use Prim.Native.Nat.{_-_, _≤_}
 use Rattle.tables.specs.Tables.{tables}
 use Rattle.tables.specs.Invariant.{Valid}
 use Rattle.bench.proofs.fill_queues.Statement.{statement}
 use Rattle.bench.proofs.fill_queues.Tie as tie
-use Rattle.bench.proofs.fill_queues.Reads as reads
-use Rattle.bench.proofs.fill_queues.Lts as lts
-use Rattle.bench.proofs.fill_queue.Reads as fill-queue-reads
 
 abbrev Inv-loop : tie.InvT-loop
 Inv-loop clients₀ handles₀ lengths₀ links₀ n each at₀ id₀ clients handles lengths links at id =

@@ -1,15 +1,10 @@
 -- `bench::join_all` meets its contract: the calls keep the core valid. Assumes nothing.
 use borrow.Author.Needs.{needs}
-use native.Mathlib.Omega.{arith}
-use Prim.Native.Nat.{_+_, _*_, _-_, _≤_}
+use Prim.Native.Nat.{_-_, _≤_}
 use Rattle.tables.specs.Tables.{tables}
 use Rattle.tables.specs.Invariant.{Valid}
 use Rattle.bench.proofs.join_all.Statement.{statement}
 use Rattle.bench.proofs.join_all.Tie as tie
-use Rattle.bench.proofs.join_all.Reads as reads
-use Rattle.bench.proofs.join_all.Lts as lts
-use Rattle.bench.proofs.choose.Reads as choose-reads
-use Rattle.settings.proofs.join.Reads as join-reads
 
 abbrev Inv-loop : tie.InvT-loop
 Inv-loop clients₀ handles lengths links n indifferents rate at₀ id₀ clients at id =

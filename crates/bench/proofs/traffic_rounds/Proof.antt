@@ -1,14 +1,10 @@
 -- `bench::traffic_rounds` meets its contract: the calls keep the core valid. Assumes nothing.
 use borrow.Author.Needs.{needs}
-use native.Mathlib.Omega.{arith}
-use Prim.Native.Nat.{_+_, _*_, _-_, _≤_}
+use Prim.Native.Nat.{_-_, _≤_}
 use Rattle.tables.specs.Tables.{tables}
 use Rattle.tables.specs.Invariant.{Valid}
 use Rattle.bench.proofs.traffic_rounds.Statement.{statement}
 use Rattle.bench.proofs.traffic_rounds.Tie as tie
-use Rattle.bench.proofs.traffic_rounds.Reads as reads
-use Rattle.bench.proofs.traffic_rounds.Lts as lts
-use Rattle.bench.proofs.traffic_round.Reads as traffic-round-reads
 
 abbrev Inv-loop : tie.InvT-loop
 Inv-loop clients₀ handles₀ lengths₀ links₀ n rounds at₀ k₀ clients handles lengths links at k =

@@ -1,12 +1,13 @@
--- What the clients are after one is put in place or a slot is spent, and when two kinds are the same.
--- By splitting the test of the id, the rule or the kinds. Assumes nothing.
+-- What the clients are after one is put in place or a slot is spent, when two kinds are the same, and what kind a type gives.
+-- By splitting the test of the id, the rule, the kinds or the type. Assumes nothing.
 use Prim.Native.Nat.{ℕ}
-use mathlib.Core.Path.{_≡_, refl, sym, ap, subst, _∙_}
+use mathlib.Core.Path.{_≡_, refl, sym, subst}
 use mathlib.Core.Logic.{_≢_}
 use mathlib.Core.Bool.{Bool, true, false, cond}
 use lib.Dec.{eqb}
 use borrow.Author.Tests.{eq-eqb, ne-eqb}
-use Rattle.definitions.specs.Client.{Kind, absent, indifferent, private, sameKind, Client, spent}
+use Rattle.definitions.specs.Sizes.{indifferentType, privateType}
+use Rattle.definitions.specs.Client.{Kind, absent, indifferent, private, kindOf, isActive, isIndifferent, isPrivate, sameKind, Client, spent}
 use Rattle.definitions.specs.State.{put}
 use Rattle.definitions.specs.Tick.{Rule, rule1, rule2, rule3, clientsAfter}
 use Rattle.definitions.proofs.Laws.Tests.{true-false, eqb-cases}
@@ -82,3 +83,34 @@ sameKind-true indifferent private e = true-false e refl
 sameKind-true private absent e = true-false e refl
 sameKind-true private indifferent e = true-false e refl
 sameKind-true private private e = refl
+
+-- the kind that a type gives
+
+pub kindOf-indifferent : (type : ℕ) → isIndifferent (kindOf type) ≡ eqb type indifferentType
+unfolding kindOf
+kindOf-indifferent type = go (eqb type indifferentType) (eqb type privateType)
+  where
+    go : (a b : Bool) → isIndifferent (cond a indifferent (cond b private absent)) ≡ a
+    go true b = refl
+    go false true = refl
+    go false false = refl
+
+pub kindOf-private : (type : ℕ) → isPrivate (kindOf type) ≡ eqb type privateType
+unfolding kindOf indifferentType privateType
+kindOf-private type =
+    eqb-cases (λ a. isPrivate (cond a indifferent (cond (eqb type 2) private absent)) ≡ eqb type 2) type 1
+    (λ e. rw e)
+    (λ ne. go (eqb type 2))
+  where
+    go : (b : Bool) → isPrivate (cond b private absent) ≡ b
+    go true = refl
+    go false = refl
+
+pub private-kind : (k : Kind) → isPrivate k ≡ true → k ≡ private
+private-kind absent e = true-false e refl
+private-kind indifferent e = true-false e refl
+private-kind private e = refl
+
+pub active-private : (b : Bool) → b ≡ isActive (cond b private absent)
+active-private true = refl
+active-private false = refl

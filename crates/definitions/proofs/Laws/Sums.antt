@@ -15,10 +15,13 @@ sumBelow-same (suc n) f g same =
     let below : sumBelow n f ≡ sumBelow n g = sumBelow-same n f g (λ i h. same i (omega arith)) in
     omega arith
 
-pub sumBelow-zero : (n : ℕ) (f : ℕ → ℕ) → ((i : ℕ) → f i ≡ 0) → sumBelow n f ≡ 0
+pub sumBelow-zero : (n : ℕ) (f : ℕ → ℕ) → ((i : ℕ) → i < n → f i ≡ 0) → sumBelow n f ≡ 0
 unfolding sumBelow
 sumBelow-zero zero f none = refl
-sumBelow-zero (suc n) f none = omega (arith, none n, sumBelow-zero n f none)
+sumBelow-zero (suc n) f none =
+    let here : f n ≡ 0 = none n (omega arith) in
+    let below : sumBelow n f ≡ 0 = sumBelow-zero n f (λ i h. none i (omega arith)) in
+    omega arith
 
 -- each of the summed is at most the sum
 pub sumBelow-part : (n i : ℕ) (f : ℕ → ℕ) → i < n → f i ≤ sumBelow n f

@@ -1,7 +1,7 @@
 -- Six of the seven calls keep the limits.
 -- A refused call keeps the core. An accepted one puts a client and an order in place: `Update` is what is asked of the two.
 use Prim.Native.Nat.{ℕ, _+_, _-_, _≤_, _<_}
-use mathlib.Core.Path.{_≡_, refl, sym, ap, _∙_}
+use mathlib.Core.Path.{_≡_, refl, sym, _∙_}
 use mathlib.Core.Bool.{Bool, true, false, cond, true≢false}
 use mathlib.Core.List.{List, [], _∷_, _++_}
 use native.Mathlib.Omega.{arith}
@@ -10,14 +10,14 @@ use borrow.Author.Tests.{ltb-true, leb-true, not-true}
 use Rattle.definitions.specs.declared.Packet.{Packet}
 use Rattle.definitions.specs.Sizes.{ids, places, poolLimit, shares, shortest, longest, weightedDraw}
 use Rattle.definitions.specs.Client.{Kind, absent, indifferent, private, kindOf, isActive, isIndifferent, sameKind, Client, nobody, joining, retuned, changed, loaded, queued}
-use Rattle.definitions.specs.State.{State, Core, running, fresh, put, without}
+use Rattle.definitions.specs.State.{State, Core, running, fresh, without}
 use Rattle.definitions.specs.Checks.{Check, accepted, checked, activeRate, rates, openChecks, termChecks, joinChecks, activeChecks, changeChecks, leaveChecks, loadChecks, arriveChecks}
 use Rattle.definitions.specs.Calls.{onOpen, updated, onJoin, orderAfterChange, onChange, onLeave, onLoad, orderAfterArrival, onArrive}
 use Rattle.definitions.specs.Limits.{ClientLimits, standing, ordered, StateLimits, CoreLimits}
 use Rattle.definitions.proofs.Laws.Tests.{cond-both, cond-same, within-true}
 use Rattle.definitions.proofs.Laws.Checked.{Passed, checked-cases}
-use Rattle.definitions.proofs.Laws.Clients.{put-same, put-other, put-cases, sameKind-true}
-use Rattle.definitions.proofs.Laws.Sums.{sumBelow-zero, sumBelow-other}
+use Rattle.definitions.proofs.Laws.Clients.{put-cases, sameKind-true}
+use Rattle.definitions.proofs.Laws.Sums.{sumBelow-zero}
 use Rattle.definitions.proofs.Laws.Rates.{held, held-high, held-active, rates-put}
 use Rattle.definitions.proofs.Limits.Order.{standing-push-same, standing-push-other, standing-without-same, standing-without-other}
 use Rattle.definitions.proofs.Limits.Client.{Parts, Terms, terms-passed, limits-parts, parts-limits, joining-parts, retuned-parts, loaded-parts, queued-parts}
@@ -214,7 +214,7 @@ fresh-limits threshold discipline seed h = record {
   thresholdLow = within-true 1 shares threshold (h .0) .0;
   thresholdHigh = within-true 1 shares threshold (h .0) .1;
   disciplineHigh = leb-true discipline weightedDraw (h .1 .0);
-  ratesHigh = omega (arith, sumBelow-zero ids (activeRate (λ id. nobody)) (λ i. refl));
+  ratesHigh = omega (arith, sumBelow-zero ids (activeRate (λ id. nobody)) (λ i h. refl));
   clientLimits = λ id. refl;
   idsHigh = λ id high. refl;
   orderWhole = λ id. refl;

@@ -10,7 +10,7 @@ use lib.ListN.{length, length-append}
 use borrow.Author.Tests.{eqb-true}
 use Rattle.definitions.specs.declared.Packet.{Packet}
 use Rattle.definitions.specs.Sizes.{places, poolLimit, shares, burstLimit, shortest, longest, indifferentType, privateType}
-use Rattle.definitions.specs.Client.{Kind, absent, indifferent, private, kindOf, isActive, isIndifferent, sameKind, Client, empty, nobody, joining, retuned, loaded, queued, spent, refilled}
+use Rattle.definitions.specs.Client.{Kind, absent, indifferent, private, kindOf, isActive, isIndifferent, Client, empty, nobody, joining, retuned, loaded, queued, spent, refilled}
 use Rattle.definitions.specs.Checks.{within, burstFits, termChecks}
 use Rattle.definitions.specs.Limits.{LengthsFit, LimitsBy, ClientLimits}
 use Rattle.definitions.proofs.Laws.Tests.{cond-both, within-true}
@@ -37,6 +37,18 @@ abbrev pub QueueBy : Kind → List Packet → Type 0
 QueueBy absent queue = queue ≡ []
 QueueBy indifferent queue = (length queue ≤ places) × LengthsFit queue
 QueueBy private queue = (length queue ≤ places) × LengthsFit queue
+
+-- whatever the kind
+
+pub rate-high : (k : Kind) (rate : ℕ) → RateBy k rate → rate ≤ shares
+rate-high absent rate e = omega arith
+rate-high indifferent rate e = e .1
+rate-high private rate e = e .1
+
+pub burst-high : (k : Kind) (burst : ℕ) → BurstBy k burst → burst ≤ burstLimit
+burst-high absent burst e = omega arith
+burst-high indifferent burst e = e .1
+burst-high private burst e = omega arith
 
 pub record Parts (c : Client) : Type 0 where
   pub rates : RateBy (c .kind) (c .rate)

@@ -16,6 +16,7 @@ use Rattle.definitions.specs.State.{State, earliest}
 use Rattle.definitions.specs.Tick.{contends, Rule, rule1, rule2, rule3, ruleOf, contenderRate, privateRate, Turn, firstTurn, turnBy, turn, padding, sent, outcomeBy, onTick}
 use Rattle.definitions.specs.Limits.{standing, ordered, StateLimits}
 use Rattle.definitions.proofs.Laws.Tests.{lt-cases, cond-both}
+use Rattle.definitions.proofs.Laws.Clients.{private-kind}
 use Rattle.definitions.proofs.Laws.Rules.{rule-cases, turn-rule}
 use Rattle.definitions.proofs.Draw.{weighing, draw-among}
 use Rattle.definitions.proofs.Limits.Order.{standing-first-same}
@@ -74,11 +75,6 @@ private-active : (k : Kind) → isPrivate k ≡ true → isActive k ≡ true
 private-active absent e = e
 private-active indifferent e = refl
 private-active private e = refl
-
-private-kind : (k : Kind) → isPrivate k ≡ true → k ≡ private
-private-kind absent e = absurd (false≢true e)
-private-kind indifferent e = absurd (false≢true e)
-private-kind private e = refl
 
 module _ (s : State) (known : StateLimits s) where
   rated : (id : ℕ) → isActive (s .clients id .kind) ≡ true → 1 ≤ s .clients id .rate

@@ -1,19 +1,17 @@
 -- The six calls other than tick against erasure. A kept call gets the same answer from a core and from its erasure, and
 -- leaves cores that are erased alike; an arrive or load of a private neighbour, or of nobody, leaves the erasure as it was.
 -- The tests of a call read the kinds, the rates and the client that the call names, none of which is erased. Assumes nothing.
-use Prim.Native.Nat.{ℕ, zero, suc, _+_}
-use mathlib.Core.Path.{_≡_, refl, sym, ap, ap₂, _∙_}
+use Prim.Native.Nat.{ℕ}
+use mathlib.Core.Path.{_≡_, refl, sym, ap, _∙_}
 use mathlib.Core.Bool.{Bool, true, false, cond, not, _&&_}
-use mathlib.Core.List.{List, [], _∷_}
+use mathlib.Core.List.{List}
 use lib.Dec.{eqb, ltb}
 use borrow.Author.Tests.{eqb-true}
 use Rattle.definitions.specs.declared.Packet.{Packet}
-use Rattle.definitions.specs.declared.Call.{Call}
-use Rattle.definitions.specs.declared.Answer.{Answer}
 use Rattle.definitions.specs.Sizes.{ids}
 use Rattle.definitions.specs.Client.{Client, Kind, absent, indifferent, private, isActive, isIndifferent, isPrivate, kindOf, sameKind, nobody, joining, retuned, changed, loaded, queued}
-use Rattle.definitions.specs.State.{State, Core, unopened, running, fresh, put, without}
-use Rattle.definitions.specs.Checks.{Result, Check, check, checked, accepted, refused, activeRate, rates, openChecks, termChecks, joinChecks, activeChecks, changeChecks, leaveChecks, loadChecks, arriveChecks}
+use Rattle.definitions.specs.State.{State, Core, running, fresh, put, without}
+use Rattle.definitions.specs.Checks.{Result, Check, checked, accepted, refused, activeRate, rates, openChecks, joinChecks, activeChecks, changeChecks, leaveChecks, loadChecks, arriveChecks}
 use Rattle.definitions.specs.Calls.{onOpen, updated, onJoin, orderAfterChange, onChange, onLeave, onLoad, orderAfterArrival, onArrive}
 use Rattle.definitions.proofs.Laws.Tests.{true-false}
 use Rattle.definitions.proofs.Laws.Checked.{checked-cases, checked-rel}

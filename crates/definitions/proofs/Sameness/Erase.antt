@@ -1,10 +1,10 @@
 -- Demand 3 is proved by erasure: a core without what the private neighbours of the chosen client hold. A call that is
 -- struck out does not change it, and a kept call commutes with it, so histories with equal kept calls end alike.
 -- Only queue and pool are erased, so every test of kind, rate and threshold computes alike. Assumes nothing.
-use Prim.Native.Nat.{ℕ, zero, suc}
-use mathlib.Core.Path.{_≡_, refl, sym, ap, _∙_, fun-ext}
+use Prim.Native.Nat.{ℕ}
+use mathlib.Core.Path.{_≡_, refl, sym, ap, _∙_}
 use mathlib.Core.Bool.{Bool, true, false, cond, not, _&&_}
-use mathlib.Core.List.{List, [], _∷_}
+use mathlib.Core.List.{[]}
 use lib.Dec.{eqb}
 use Rattle.definitions.specs.Client.{Client, Kind, isPrivate}
 use Rattle.definitions.specs.State.{State, Core, unopened, running}

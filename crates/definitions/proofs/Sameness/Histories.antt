@@ -4,18 +4,16 @@
 use Prim.Native.Nat.{ℕ}
 use mathlib.Core.Path.{_≡_, refl, sym, ap, ap₂, _∙_}
 use mathlib.Core.Bool.{Bool, true, false, cond, not, _&&_}
-use mathlib.Core.List.{List, [], _∷_}
-use lib.Dec.{T, eqb}
+use mathlib.Core.List.{List, _∷_}
+use lib.Dec.{eqb}
 use Rattle.definitions.specs.declared.Call.{Call}
 use Rattle.definitions.specs.declared.Call.the-variants.{Open, Join, Change, Leave, Load, Arrive, Tick}
-use Rattle.definitions.specs.declared.Answer.{Answer}
 use Rattle.definitions.specs.Client.{Client, Kind, absent, indifferent, private, isIndifferent, isPrivate}
-use Rattle.definitions.specs.State.{State, Core, unopened, running}
+use Rattle.definitions.specs.State.{Core, unopened, running}
 use Rattle.definitions.specs.Answers.{isDeparture}
-use Rattle.definitions.specs.Checks.{Result}
-use Rattle.definitions.specs.Tick.{Turn, turn}
+use Rattle.definitions.specs.Tick.{Turn}
 use Rattle.definitions.specs.Core.{step}
-use Rattle.definitions.specs.History.{History, start, _then_, calls, Pick, pickBy, pickOf, clientOf, scheduler}
+use Rattle.definitions.specs.History.{History, start, _then_, calls, pickBy, pickOf, clientOf, scheduler}
 use Rattle.definitions.specs.Sameness.{isTick, after, answerAt, indifferentAt, isStruck, kept, log}
 use borrow.Author.Tests.{not-true}
 use Rattle.definitions.proofs.Laws.Tests.{true-false, and-both}

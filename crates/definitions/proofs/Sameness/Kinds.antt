@@ -7,8 +7,8 @@ use mathlib.Core.List.{List}
 use lib.Dec.{eqb}
 use Rattle.definitions.specs.declared.Call.{Call}
 use Rattle.definitions.specs.declared.Call.the-variants.{Open, Join, Change, Leave, Load, Arrive, Tick}
-use Rattle.definitions.specs.Sizes.{indifferentType, privateType}
-use Rattle.definitions.specs.Client.{Client, Kind, absent, indifferent, private, isIndifferent, kindOf, sameKind, nobody, joining, retuned, changed, loaded, queued, spent, refilled}
+use Rattle.definitions.specs.Sizes.{indifferentType}
+use Rattle.definitions.specs.Client.{Client, isIndifferent, kindOf, sameKind, nobody, joining, retuned, changed, loaded, queued, spent, refilled}
 use Rattle.definitions.specs.State.{State, Core, unopened, running, fresh, put, without}
 use Rattle.definitions.specs.Answers.{isAccepted}
 use Rattle.definitions.specs.Checks.{Result, Check, checked, accepted, openChecks, joinChecks, changeChecks, leaveChecks, loadChecks, arriveChecks}
@@ -19,16 +19,7 @@ use Rattle.definitions.specs.History.{History, start, _then_, clientOf, 
 use Rattle.definitions.specs.Sameness.{indifferentBy, after, answerAt, indifferentAt}
 use Rattle.definitions.proofs.Laws.Tests.{eqb-comm}
 use Rattle.definitions.proofs.Laws.Checked.{checked-cases}
-use Rattle.definitions.proofs.Laws.Clients.{put-keeps, sent-keeps, sameKind-true}
-
-kindOf-indifferent : (type : ℕ) → isIndifferent (kindOf type) ≡ eqb type indifferentType
-unfolding kindOf
-kindOf-indifferent type = go (eqb type indifferentType) (eqb type privateType)
-  where
-    go : (a b : Bool) → isIndifferent (cond a indifferent (cond b private absent)) ≡ a
-    go true b = refl
-    go false true = refl
-    go false false = refl
+use Rattle.definitions.proofs.Laws.Clients.{put-keeps, sent-keeps, sameKind-true, kindOf-indifferent}
 
 -- whether an id is indifferent in a core
 unfoldable pub holdsIndifferent : ℕ → Core → Bool

@@ -3,19 +3,17 @@
 use Prim.Native.Nat.{ℕ, zero, suc}
 use native.Mathlib.Omega.{arith}
 use mathlib.Core.Path.{_≡_, refl, ap}
-use mathlib.Core.Bool.{Bool, true, false, cond, _&&_}
+use mathlib.Core.Bool.{cond, _&&_}
 use mathlib.Core.List.{List, [], _∷_, _++_}
 use lib.ListN.{getD}
 use Rattle.definitions.specs.declared.Packet.{Packet}
-use Rattle.definitions.specs.declared.Call.{Call}
 use Rattle.definitions.specs.declared.Call.the-variants.{Open, Join, Load, Arrive, Tick}
 use Rattle.definitions.specs.declared.Answer.{Answer}
 use Rattle.definitions.specs.Sizes.{ids, privateType}
 use Rattle.definitions.specs.Draw.{sumBelow}
 use Rattle.definitions.specs.Client.{Client, isPrivate, empty, nobody}
-use Rattle.definitions.specs.State.{State, Core, unopened, running}
+use Rattle.definitions.specs.State.{Core, unopened, running}
 use Rattle.definitions.specs.Answers.{idle, dummy, shown}
-use Rattle.definitions.specs.Checks.{Result}
 use Rattle.definitions.specs.Core.{step}
 use Rattle.definitions.specs.History.{History, start, _then_, end, Pick, noSlot, byRule1, byRule2, byRule3, Scheduler, clientOf, pickOf}
 use Rattle.definitions.specs.Sameness.{isTick, names, indifferentBy, after, answerAt, indifferentAt, isStruck, kept, log, departure, Sameness}

@@ -1,14 +1,14 @@
 -- Which opens, joins, changes and leaves are accepted follows from these four alone. They read an outline of the core, the
 -- threshold and each id's kind and rate, which no load, arrival or tick changes. Assumes nothing.
 use Prim.Native.Nat.{ℕ}
-use mathlib.Core.Path.{_≡_, refl, sym, ap, ap₂, fun-ext, _∙_}
+use mathlib.Core.Path.{_≡_, refl, sym, ap, ap₂, _∙_}
 use mathlib.Core.Bool.{Bool, true, false, cond}
 use mathlib.Core.List.{List, [], _∷_}
 use lib.Dec.{eqb}
 use Rattle.definitions.specs.declared.Call.{Call}
 use Rattle.definitions.specs.declared.Call.the-variants.{Open, Join, Change, Leave, Load, Arrive, Tick}
 use Rattle.definitions.specs.declared.Answer.{Answer}
-use Rattle.definitions.specs.Client.{Client, Kind, kindOf, sameKind, nobody, joining, retuned, changed, loaded, queued, spent, refilled}
+use Rattle.definitions.specs.Client.{Client, kindOf, sameKind, nobody, joining, retuned, changed, loaded, queued, spent, refilled}
 use Rattle.definitions.specs.State.{State, Core, unopened, running, fresh, put, without}
 use Rattle.definitions.specs.Checks.{Result, Check, accepted, checked, activeRate, rates, openChecks, joinChecks, activeChecks, changeChecks, leaveChecks, loadChecks, arriveChecks}
 use Rattle.definitions.specs.Calls.{onOpen, updated, onJoin, orderAfterChange, onChange, onLeave, onLoad, orderAfterArrival, onArrive}
@@ -18,7 +18,7 @@ use Rattle.definitions.specs.History.{History, start, _then_, scheduler}
 use Rattle.definitions.specs.Sameness.{isSetting, after, answerAt, settingsOf, settingAnswers, SettingsAlone}
 use Rattle.definitions.proofs.Laws.Tests.{true-false}
 use Rattle.definitions.proofs.Laws.Checked.{checked-cases, checked-rel}
-use Rattle.definitions.proofs.Laws.Clients.{put-cases, put-keeps, sent-keeps}
+use Rattle.definitions.proofs.Laws.Clients.{put-keeps, sent-keeps}
 
 -- a client as its kind and rate
 unfoldable pub sketched : Client → Client

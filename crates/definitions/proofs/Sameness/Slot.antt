@@ -1,22 +1,19 @@
 -- A tick against erasure: the turn is the same, the slot's effect commutes, and the outcome is the same unless it bears the
 -- id of a hidden client. Rule 1 looks at indifferent clients, which are never hidden, and rule 2 at kinds and rates alone.
 -- Assumes nothing.
-use Prim.Native.Nat.{ℕ, zero, suc}
+use Prim.Native.Nat.{ℕ}
 use mathlib.Core.Path.{_≡_, refl, sym, ap, _∙_, fun-ext}
 use mathlib.Core.Bool.{Bool, true, false, cond, not, _&&_}
-use mathlib.Core.List.{List, [], _∷_}
+use mathlib.Core.List.{[]}
 use lib.Dec.{eqb}
 use borrow.Author.Tests.{eqb-true}
-use Rattle.definitions.specs.declared.Packet.{Packet}
-use Rattle.definitions.specs.declared.Answer.{Answer}
 use Rattle.definitions.specs.declared.Answer.the-variants.{Slot}
 use Rattle.definitions.specs.Sizes.{ids, firstCome}
 use Rattle.definitions.specs.Draw.{draw}
 use Rattle.definitions.specs.Client.{Client, Kind, absent, indifferent, private, isIndifferent, isPrivate, empty, spent, refilled}
-use Rattle.definitions.specs.State.{State, Core, running, put, earliest}
+use Rattle.definitions.specs.State.{State, running, put, earliest}
 use Rattle.definitions.specs.Answers.{bears, isDeparture}
-use Rattle.definitions.specs.Checks.{Result}
-use Rattle.definitions.specs.Tick.{anyBelow, contends, Rule, rule1, rule2, rule3, ruleOf, contenderRate, privateRate, Turn, byDraw, firstTurn, turnBy, turn, withoutPacket, sentFrom, sent, outcomeBy, clientsAfter, orderAfter, refillAll, slotted, onTick}
+use Rattle.definitions.specs.Tick.{anyBelow, contends, Rule, rule1, rule2, rule3, ruleOf, contenderRate, privateRate, Turn, byDraw, firstTurn, turnBy, turn, sent, outcomeBy, clientsAfter, refillAll, slotted, onTick}
 use Rattle.definitions.proofs.Laws.Tests.{true-false}
 use Rattle.definitions.proofs.Laws.Rules.{sent-bears}
 use Rattle.definitions.proofs.Sameness.Erase.{hideIf, hidden, hide, erase, eraseCore, erase-path, hide-open, hide-step}

@@ -1,28 +1,21 @@
 -- Demand 3, `Sameness scheduler`: each thing that it compares is logged alike, or is read off what is not erased.
 -- Assumes nothing.
-use Prim.Native.Nat.{ℕ, zero, suc, _≤_, _<_}
+use Prim.Native.Nat.{ℕ, _≤_}
 use native.Mathlib.Omega.{arith}
 use native.Mathlib.Nat.{le-refl}
-use mathlib.Core.Path.{_≡_, refl, sym, ap, ap₂, _∙_, subst}
-use mathlib.Core.Logic.{_⊎_, inl, inr}
+use mathlib.Core.Path.{_≡_, refl, sym, ap, ap₂, _∙_}
 use mathlib.Core.Bool.{Bool, true, false, cond, not, _&&_, _||_, and-true, and-false}
-use mathlib.Core.List.{List, [], _∷_}
-use lib.Dec.{T, eqb}
-use borrow.Author.Tests.{eqb-true, not-true}
+use lib.Dec.{eqb}
+use borrow.Author.Tests.{eqb-true}
 use Rattle.definitions.specs.declared.Call.{Call}
 use Rattle.definitions.specs.declared.Call.the-variants.{Open, Join, Change, Leave, Load, Arrive, Tick}
 use Rattle.definitions.specs.declared.Answer.{Answer}
-use Rattle.definitions.specs.Client.{Client, isIndifferent}
-use Rattle.definitions.specs.State.{State, Core, unopened, running}
+use Rattle.definitions.specs.Client.{Client}
 use Rattle.definitions.specs.Answers.{number, isDeparture}
-use Rattle.definitions.specs.Checks.{Result}
-use Rattle.definitions.specs.Tick.{Turn, turn}
-use Rattle.definitions.specs.Core.{step}
-use Rattle.definitions.specs.History.{History, start, _then_, Place, end, before, calls, Pick, pickBy, pickOf, clientOf, scheduler}
-use Rattle.definitions.specs.Sameness.{isSetting, isTick, isArrival, names, after, answerAt, indifferentAt, isStruck, kept, log, departure, drop, SameDealings, SameHoldings, LooksSame, Sameness}
+use Rattle.definitions.specs.History.{History, _then_, Place, end, before, calls, pickOf, clientOf, scheduler}
+use Rattle.definitions.specs.Sameness.{isSetting, isTick, isArrival, names, after, answerAt, indifferentAt, isStruck, kept, departure, drop, SameDealings, SameHoldings, LooksSame, Sameness}
 use Rattle.definitions.proofs.Laws.Tests.{T-true, true-false, and-both, eqb-same}
-use Rattle.definitions.proofs.Sameness.Erase.{hidden, hide, hide-open, erase, eraseCore}
-use Rattle.definitions.proofs.Sameness.Slot.{turn-erased, tick-departure, tick-answer}
+use Rattle.definitions.proofs.Sameness.Erase.{hidden}
 use Rattle.definitions.proofs.Sameness.Kinds.{holdsIndifferent, indifferent-held}
 use Rattle.definitions.proofs.Sameness.Histories.{AlikeAt, alike-indifferent, alike-answer, alike-pick, alike-departure, alike-departed, alike-client, hidden-not, alike-through, Logged, log-same}
 

@@ -5,9 +5,6 @@ use borrow.Author.Needs.{needs}
 use Rattle.tables.specs.declared.Control.{Control}
 use Rattle.opening.proofs.control_of.Statement.{statement}
 use Rattle.opening.proofs.control_of.Tie as tie
-use Rattle.opening.proofs.control_of.Reads as reads
-use Rattle.opening.proofs.control_of.Lts as lts
-use Rattle.generator.proofs.Generator.new.Reads as new-reads
 
 new-requires : tie.Need-new-requires
 new-requires c κs = search needs

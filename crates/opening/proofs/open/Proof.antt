@@ -1,7 +1,7 @@
 -- `opening::open` meets its contract: it is refused with the first number that fails, and else fills the tables.
 -- Assumes nothing.
 use borrow.Author.Needs.{needs}
-use mathlib.Core.Path.{_≡_, sym, ap, _∙_}
+use mathlib.Core.Path.{sym, ap, _∙_}
 use Rattle.definitions.specs.Sizes.{ids, places}
 use Rattle.order.specs.Order.{sentinel, linkCount}
 use Rattle.tables.specs.declared.Control.{Control}

@@ -1,7 +1,7 @@
 -- `opening::unopened` meets its contract: a control that is not opened means an unopened core, whatever the tables hold.
 -- Assumes nothing.
 use borrow.Author.Needs.{needs}
-use mathlib.Core.Path.{_≡_, refl, ap, _∙_}
+use mathlib.Core.Path.{ap}
 use Rattle.definitions.proofs.Laws.Tests.{true-false}
 use Rattle.tables.specs.declared.Control.{Control}
 use Rattle.tables.proofs.Promises.{coreOf-shut}

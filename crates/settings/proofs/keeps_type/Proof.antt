@@ -3,7 +3,8 @@ use borrow.Author.Needs.{needs}
 use mathlib.Core.Path.{sym, _∙_}
 use Rattle.definitions.specs.Sizes.{indifferentType, privateType}
 use Rattle.tables.specs.Meaning.{kindAt}
-use Rattle.settings.proofs.Remarks.{type-indifferent, type-private, other-kind}
+use Rattle.definitions.proofs.Laws.Clients.{kindOf-indifferent, kindOf-private}
+use Rattle.settings.proofs.Remarks.{other-kind}
 use Rattle.settings.proofs.keeps_type.Statement.{statement}
 use Rattle.settings.proofs.keeps_type.Tie as tie
 
@@ -12,14 +13,14 @@ has-requires c κs = search needs
 
 returns : tie.Need-returns
 unfolding kindAt indifferentType
-returns c = rw (sym (c .before .has .ensures) ∙ c .if1 .taken) (sym (type-indifferent _))
+returns c = rw (sym (c .before .has .ensures) ∙ c .if1 .taken) (sym (kindOf-indifferent _))
 
 returns-2 : tie.Need-returns-2
 unfolding privateType
 returns-2 c =
     let start = c .before .before in
     rw (other-kind (start .args .control) (start .args .id) (sym (c .before .has .ensures) ∙ c .if1 .left) (start .pre))
-    (sym (type-private _))
+    (sym (kindOf-private _))
 
 pub keeps-type-spec : {M : Type 1} → statement M
 keeps-type-spec = tie.close (tie.spec has-requires returns returns-2)

@@ -2,7 +2,7 @@
 use borrow.Author.Needs.{needs}
 use mathlib.Core.Path.{refl}
 use Rattle.definitions.specs.Sizes.{indifferentType, privateType}
-use Rattle.settings.proofs.Remarks.{type-indifferent, type-private}
+use Rattle.definitions.proofs.Laws.Clients.{kindOf-indifferent, kindOf-private}
 use Rattle.settings.proofs.recast.Statement.{statement}
 use Rattle.settings.proofs.recast.Tie as tie
 
@@ -23,8 +23,8 @@ returns c = record {
   discipline = refl;
   generator = refl;
   rates = refl;
-  indifferent = rw type-indifferent (c .before .before .set-mark .ensures);
-  private = rw type-private (c .before .set-mark2 .ensures);
+  indifferent = rw kindOf-indifferent (c .before .before .set-mark .ensures);
+  private = rw kindOf-private (c .before .set-mark2 .ensures);
   waiting = c .set-mark3 .ensures;
 }
 

@@ -21,7 +21,7 @@ returns-2 c =
     record {
       same = refl;
       marks = λ j.
-          rw (eq-eqb (c .before .before .before .args .left) 0 (c .before .before .if1 .left), and-true)
+          rw (eq-eqb (c .before .before .args .left) 0 (c .before .if1 .left), and-true)
           (c .unmark .ensures j);
     }
 
