@@ -1,4 +1,5 @@
--- Demand 3 on paper, from demand 3: the printed lines are the answers', printed. And the printout is those lines. Assumes nothing.
+-- Demand 3 on paper, from demand 3: the printed lines are the answers', printed. And the printout is those lines. Assumes
+-- nothing.
 use Prim.Native.Nat.{ℕ}
 use mathlib.Core.Path.{_≡_, refl, sym, ap, _∙_}
 use mathlib.Core.Bool.{Bool, true, false, cond}

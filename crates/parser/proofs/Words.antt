@@ -1,4 +1,4 @@
--- What a word is, by what the reader finds at its front. Assumes nothing.
+-- What a word is, by what the parser finds at its front. Assumes nothing.
 use Prim.Native.Nat.{ℕ, _-_, _≤_, _<_, min}
 use mathlib.Core.Path.{_≡_, refl, sym, ap, _∙_}
 use mathlib.Core.Bool.{true, false}

@@ -1,5 +1,5 @@
--- The lines of a text, from any place of it (paper 01, "Script and printout": "One form a line, each line closed by a line feed").
--- Every place has a line, which may be empty: behind the last byte it ends where it begins.
+-- The lines of a text, from any place of it (paper 01, "Script and printout": "One form a line, each line closed by a line
+-- feed"). Every place has a line, which may be empty: behind the last byte it ends where it begins.
 use Prim.Native.Nat.{ℕ, suc, _+_, _-_, _≤_, _<_}
 use mathlib.Core.Path.{_≡_}
 use mathlib.Core.Bool.{Bool, true, false}
@@ -34,7 +34,8 @@ spanAt text at = record { end = lineEnd text at; next = behind text (lineEnd tex
 abbrev pub between : List ℕ → ℕ → ℕ → List ℕ
 between text at end = take (end - at) (drop at text)
 
--- what holds of the end of a line that begins within the text: no line feed stands before it, and one stands there, unless the text ends
+-- what holds of the end of a line that begins within the text: no line feed stands before it, and one stands there, unless the
+-- text ends
 pub record LineEnd (text : List ℕ) (at end : ℕ) : Type 0 where
   pub forth : at ≤ end
   pub within : end ≤ length text

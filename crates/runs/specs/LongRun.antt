@@ -1,4 +1,4 @@
--- A long run (the page "Long runs"): it "makes calls from a seed and keeps a running check of the answers".
+-- A long run (docs/LONG_RUNS.md): it "makes calls from a seed and keeps a running check of the answers".
 use Prim.Native.Nat.{ℕ, zero, suc}
 use Rattle.definitions.specs.declared.Call.{Call}
 use Rattle.definitions.specs.Generator.{stepped}

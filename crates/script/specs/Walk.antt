@@ -1,3 +1,4 @@
+-- "Each line prints one line" (paper 01, "Script and printout").
 -- What holds between two lines of a script: what has been written, and behind it what the rest of the text prints, is the
 -- printout of the whole; and there is room for it.
 use Prim.Native.Nat.{ℕ, _+_, _*_, _-_, _≤_}

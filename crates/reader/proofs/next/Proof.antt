@@ -1,6 +1,9 @@
--- `reader::next` meets its contract: a walk of its MIR, by hand. The borrow is opened, `line_end` is called on the slice and the number and `after_line` on the slice and what it gave, the number is stored, and the borrow is closed at the moved reader.
--- The struct is Copy: what it owns is had twice, one copy is kept for the closing, with the number's facts made anew (`again`), and of the other what text owns goes to each callee beside the lifetime's token, which comes back. All that the proof knows of the callees is that they meet their contracts.
--- Assumes nothing.
+-- `reader::next` meets its contract: a walk of its MIR, by hand. The borrow is opened, `line_end` is called on the slice and
+-- the number and `after_line` on the slice and what it gave, the number is stored, and the borrow is closed at the moved
+-- reader.
+-- The struct is Copy: what it owns is had twice, one copy is kept for the closing, with the number's facts made anew
+-- (`again`), and of the other what text owns goes to each callee beside the lifetime's token, which comes back. All that the
+-- proof knows of the callees is that they meet their contracts. Assumes nothing.
 use mathlib.Core.Path.{_≡_, refl, ap, _∙_}
 use Prim.Native.Nat.{ℕ, _<_, _^_}
 use mathlib.Core.List.{List, [], _∷_}
