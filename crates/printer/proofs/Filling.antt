@@ -13,7 +13,7 @@ use Rattle.definitions.proofs.Laws.Tests.{eqb-cases}
 use Rattle.grammar.specs.Numerals.{decimal}
 use Rattle.grammar.specs.Templates.{gap, filled}
 use Rattle.printer.specs.Appended.{Appended}
-use Rattle.printer.specs.Printed.{line}
+use Rattle.printer.specs.Printed.{lineRoom}
 use Rattle.printer.proofs.Decimals.{decimal-length}
 
 -- a gap is filled
@@ -72,10 +72,10 @@ filled-length (b ∷ bs) (n ∷ ns) small =
     (λ ne. omega (arith, filled-length bs (n ∷ ns) small))
 
 -- so a filled template has at most the room of a line, where that holds it with ten bytes for each number
-module _ (template numbers : List ℕ) (small : Small numbers) (short : length template + 10 * length numbers ≤ line) where
-  pub filled-room : (at : ℕ) {size : ℕ} → at + line ≤ size → at + length (filled template numbers) ≤ size
+module _ (template numbers : List ℕ) (small : Small numbers) (short : length template + 10 * length numbers ≤ lineRoom) where
+  pub filled-room : (at : ℕ) {size : ℕ} → at + lineRoom ≤ size → at + length (filled template numbers) ≤ size
   filled-room at room = omega (arith, filled-length template numbers small)
 
   pub filled-end : {before : List ℕ} {at : ℕ} {after : List ℕ} {end : ℕ}
-      → Appended (filled template numbers) before at after end → end ≤ at + line
+      → Appended (filled template numbers) before at after end → end ≤ at + lineRoom
   filled-end a = omega (arith, filled-length template numbers small, a .place)

@@ -19,8 +19,8 @@ unfoldable pub lineEnd : List ℕ → ℕ → ℕ
 lineEnd text at = at + lineLength (drop at text)
 
 -- the place behind a line that ends there: its line feed is passed, if it has one
-unfoldable pub behind : List ℕ → ℕ → ℕ
-behind text end = elim (ltb end (length text)) [ true ↦ end + 1 | false ↦ end ]
+unfoldable pub afterLine : List ℕ → ℕ → ℕ
+afterLine text end = elim (ltb end (length text)) [ true ↦ end + 1 | false ↦ end ]
 
 -- no byte stands at a place
 abbrev pub isEnd : List ℕ → ℕ → Bool
@@ -28,7 +28,7 @@ isEnd text at = leb (length text) at
 
 -- the line that begins at a place
 abbrev pub spanAt : List ℕ → ℕ → Span
-spanAt text at = record { end = lineEnd text at; next = behind text (lineEnd text at) }
+spanAt text at = record { end = lineEnd text at; next = afterLine text (lineEnd text at) }
 
 -- the bytes from one place of a text up to another
 abbrev pub between : List ℕ → ℕ → ℕ → List ℕ

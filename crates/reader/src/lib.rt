@@ -2,7 +2,7 @@
 // those over the struct take it apart and call them. `line_at` and `ended` have plain parameters: whoever calls them needs no
 // struct that holds a reference.
 ghost use mathlib.Core.Path.{_≡_};
-ghost use Rattle.reader.specs.Lines.{lineEnd, behind, isEnd, spanAt};
+ghost use Rattle.reader.specs.Lines.{lineEnd, afterLine, isEnd, spanAt};
 ghost use Rattle.reader.specs.Place.{moved};
 
 pub struct Reader<'a> {
@@ -34,7 +34,7 @@ pub fn line_end(text: &[u8], at: usize) -> usize
 
 // The place behind a line that ends at `end`: its line feed is passed, if it has one.
 pub fn after_line(text: &[u8], end: usize) -> usize
-    ensures { λ r. ⌜ r ≡ behind (now (text .entry)) end ⌝ }
+    ensures { λ r. ⌜ r ≡ afterLine (now (text .entry)) end ⌝ }
 {
     if end < text.len() { end + 1 } else { end }
 }

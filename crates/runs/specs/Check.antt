@@ -29,5 +29,5 @@ words (Refused n) = 2 ∷ n ∷ []
 words (Slot outcome) = slotWord outcome ∷ values outcome
 
 -- "An answer mixes in its words, in this order"
-unfoldable pub checked : ℕ → Answer → ℕ
-checked h answer = mixed h (words answer)
+unfoldable pub checkWith : ℕ → Answer → ℕ
+checkWith h answer = mixed h (words answer)

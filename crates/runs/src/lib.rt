@@ -13,7 +13,7 @@ ghost use mathlib.Core.Path.{_≡_};
 ghost use Rattle.tables.specs.Tables.{tables};
 ghost use Rattle.tables.specs.Invariant.{Valid};
 ghost use Rattle.runs.specs.Calls.{idOf, burstOf, trafficAt, callOf};
-ghost use Rattle.runs.specs.Check.{mix, checked};
+ghost use Rattle.runs.specs.Check.{mix, checkWith};
 ghost use Rattle.runs.specs.LongRun.{after};
 ghost use Rattle.runs.specs.Stands.{Begins, Goes};
 
@@ -108,7 +108,7 @@ fn mix(h: u32, w: u32) -> u32
 }
 
 fn check_slot(h: u32, outcome: Outcome) -> u32
-    ensures { λ r. ⌜ r ≡ checked h (Answer.Slot outcome) ⌝ }
+    ensures { λ r. ⌜ r ≡ checkWith h (Answer.Slot outcome) ⌝ }
 {
     match outcome {
         Outcome::Real {
@@ -127,7 +127,7 @@ fn check_slot(h: u32, outcome: Outcome) -> u32
 
 // The check with an answer's words mixed in.
 pub fn check(h: u32, answer: Answer) -> u32
-    ensures { λ r. ⌜ r ≡ checked h answer ⌝ }
+    ensures { λ r. ⌜ r ≡ checkWith h answer ⌝ }
 {
     match answer {
         Answer::Accepted => mix(h, 1),

@@ -13,8 +13,9 @@ use Rattle.grammar.specs.Bytes.{lineFeed, Unbroken}
 use Rattle.grammar.specs.Grammar.{parsed}
 use Rattle.grammar.specs.Printout.{printed, answered, printedFrom}
 use Rattle.grammar.proofs.Lines.{line-closed, line-open}
+use Rattle.printer.specs.Printed.{lineRoom}
 use Rattle.reader.specs.Lines.{between}
-use Rattle.script.specs.Walk.{lineRoom, Walked}
+use Rattle.script.specs.Walk.{Walked}
 
 module _ (text : List ℕ) (at end : ℕ) (forth : at ≤ end) where
   -- a closed line, and the rest

@@ -17,7 +17,7 @@ use Rattle.tables.specs.declared.Control.{Control}
 use Rattle.tables.specs.Tables.{Tables}
 use Rattle.tables.specs.Meaning.{coreOf}
 use Rattle.tables.specs.Invariant.{Valid}
-use Rattle.script.specs.Walk.{outRoom, given, lineRoom, Walking}
+use Rattle.script.specs.Walk.{outRoom, given, Walking}
 use Rattle.script.proofs.Steps.{none-walked}
 
 pub given-bare : (text : List ℕ) (out : List ℕ) → length out < 780064 → (0 ≤ length out) × ([] ≡ given text (length out))
