@@ -1,7 +1,7 @@
 -- "One blank between parts, none elsewhere" (paper 01, "Script and printout").
 -- Templates: a text in which each # stands for a number. One template says how a form is written and how it is read.
 use Prim.Native.Nat.{ℕ}
-use mathlib.Core.Bool.{Bool, true, false, cond}
+use mathlib.Core.Bool.{true, false}
 use mathlib.Core.List.{List, [], _∷_, _++_}
 use mathlib.Core.Option.{Option, none, some}
 use lib.Dec.{eqb}
