@@ -1,5 +1,5 @@
--- "A bucket whose level runs from 0 to burst × 1024", with "a burst, 1 to 64" and a rate that is a number of 1/1024 shares: what a
--- bucket is before and after one refill.
+-- "A bucket whose level runs from 0 to burst × 1024", with "a burst, 1 to 64" and a rate that is a number of 1/1024 shares:
+-- what a bucket is before and after one refill.
 use Prim.Native.Nat.{ℕ, _+_, _*_, _≤_, min}
 use Rattle.definitions.specs.Sizes.{shares, burstLimit}
 use Rattle.bucket.specs.declared.Bucket.{Bucket}

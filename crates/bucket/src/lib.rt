@@ -1,5 +1,6 @@
 // The bucket of an indifferent client (paper 01, "Clients, queues, pools"), and the refill of the bucket that it is lent.
-// The formula is covered; `refill` and `level_after` reach a struct through a reference, and are proved by a walk.
+// The formula is covered; `refill` and `level_after` reach a struct through a reference, and are proved by a walk. `Bucket` and
+// `refill` are public since the paper names this form.
 use definitions::SHARES;
 ghost use mathlib.Core.Path.{_≡_};
 ghost use Rattle.bucket.specs.Buckets.{bucketOf, Within, levelAfter, refilled};

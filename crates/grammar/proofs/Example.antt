@@ -1,5 +1,4 @@
 -- The printed example of paper 01, over the definitions, and lines of every bad kind. Computed.
-use Prim.Native.Nat.{ℕ}
 use mathlib.Core.Path.{_≡_, refl}
 use Rattle.definitions.proofs.Everything.{everything}
 use Rattle.grammar.specs.Bytes.{bytes, textLimit, numberLimit}

@@ -44,12 +44,13 @@ spaced-rest : (b : ℕ) (bs : List ℕ) → spaced (b ∷ bs) ≡ true → space
 unfolding spaced
 spaced-rest b bs e = and-eq-true-iff (cond (eqb b gap) (clear bs) true) (spaced bs) .0 e .1
 
-filled-byte : (b : ℕ) (bs ns : List ℕ) → eqb b gap ≡ false → filled (b ∷ bs) ns ≡ b ∷ filled bs ns
+-- a byte that is no gap is written as it is, and a gap is filled
+pub filled-byte : (b : ℕ) (bs ns : List ℕ) → eqb b gap ≡ false → filled (b ∷ bs) ns ≡ b ∷ filled bs ns
 unfolding filled
 filled-byte b bs [] g = refl
 filled-byte b bs (n ∷ ns) g = rw (filled, g)
 
-filled-gap : (b : ℕ) (bs : List ℕ) (n : ℕ) (ns : List ℕ) → eqb b gap ≡ true → filled (b ∷ bs) (n ∷ ns) ≡ decimal n ++ filled bs ns
+pub filled-gap : (b : ℕ) (bs : List ℕ) (n : ℕ) (ns : List ℕ) → eqb b gap ≡ true → filled (b ∷ bs) (n ∷ ns) ≡ decimal n ++ filled bs ns
 unfolding filled
 filled-gap b bs n ns g = rw (filled, g)
 

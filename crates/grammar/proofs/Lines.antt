@@ -3,13 +3,10 @@
 use Prim.Native.Nat.{ℕ}
 use mathlib.Core.Path.{_≡_, refl, sym, ap, _∙_}
 use mathlib.Core.Logic.{_≢_}
-use mathlib.Core.Bool.{Bool, true, false}
 use mathlib.Core.List.{List, [], _∷_, _++_, append-assoc, append-nil}
-use lib.Dec.{eqb}
 use borrow.Author.Tests.{ne-eqb}
 use Rattle.definitions.specs.declared.Answer.the-variants.{Refused}
 use Rattle.definitions.specs.State.{Core}
-use Rattle.definitions.specs.Checks.{Result}
 use Rattle.grammar.specs.Bytes.{lineFeed, Unbroken}
 use Rattle.grammar.specs.Grammar.{parsed}
 use Rattle.grammar.specs.Printout.{printed, answered, printedFrom}

@@ -1,4 +1,5 @@
--- Demand 3 on paper, from demand 3: the printed lines are the answers', printed. And the printout is those lines. Assumes nothing.
+-- Demand 3 on paper, from demand 3: the printed lines are the answers', printed. And the printout is those lines. Assumes
+-- nothing.
 use Prim.Native.Nat.{ℕ}
 use mathlib.Core.Path.{_≡_, refl, sym, ap, _∙_}
 use mathlib.Core.Bool.{Bool, true, false, cond}
@@ -8,19 +9,16 @@ use lib.ListN.{length}
 use borrow.Author.Tests.{le-ltb}
 use Rattle.definitions.specs.declared.Call.{Call}
 use Rattle.definitions.specs.declared.Answer.{Answer}
-use Rattle.definitions.specs.declared.Answer.the-variants.{Refused}
-use Rattle.definitions.specs.State.{Core, unopened}
-use Rattle.definitions.specs.Checks.{Result, refused}
-use Rattle.definitions.specs.Core.{step}
-use Rattle.definitions.specs.History.{History, start, _then_, Place, end, calls, scheduler}
-use Rattle.definitions.specs.Sameness.{after, answerAt, indifferentAt, kept, log, departure, isSetting, names, SameDealings, LooksSame, Sameness}
+use Rattle.definitions.specs.State.{Core}
+use Rattle.definitions.specs.History.{History, start, _then_, end, calls, scheduler}
+use Rattle.definitions.specs.Sameness.{after, answerAt, kept, log, SameDealings, LooksSame, Sameness}
 use Rattle.definitions.proofs.Sameness.Theorem.{sameness}
 use Rattle.grammar.specs.declared.Line.{Line}
 use Rattle.grammar.specs.declared.Line.the-variants.{Form, Refused as Unread}
 use Rattle.grammar.specs.Bytes.{lineFeed, textLimit}
 use Rattle.grammar.specs.Grammar.{parsed}
 use Rattle.grammar.specs.Printout.{printed, answered, printedFrom, printout}
-use Rattle.grammar.specs.Sheet.{printedAt, heard, printedLine, toldFrom, told, sheetFrom, LinesPrinted, SameLines, PrintsSame, SamenessOnPaper}
+use Rattle.grammar.specs.Sheet.{printedAt, heard, printedLine, told, sheetFrom, LinesPrinted, SameLines, SamenessOnPaper}
 
 -- ---- the printout is the lines that the history's calls print
 

@@ -1,3 +1,4 @@
+-- "One form a line, each line closed by a line feed" (paper 01, "Script and printout").
 -- Texts as lists of bytes. A quoted text stands for its bytes, so that the forms can be read as the paper prints them.
 use Prim.Native.Nat.{ℕ}
 use Prim.Native.Char.{code}

@@ -2,7 +2,7 @@
 -- `load I N`, `arrive I (packet H L)` and `tick`, each in round brackets, where K is `private R` (burst 0) or `indifferent R B`."
 use Prim.Native.Nat.{ℕ}
 use Prim.Native.String.{String}
-use mathlib.Core.Bool.{Bool, true, false, cond, _&&_}
+use mathlib.Core.Bool.{Bool, true, cond, _&&_}
 use mathlib.Core.List.{List, [], _∷_}
 use mathlib.Core.Option.{Option, none, some}
 use lib.Dec.{leb}

@@ -1,9 +1,9 @@
 -- The printout of a script (paper 01, "Script and printout"). "Each line prints one line: `(ok)`, `(refused N)`, or for a tick
 -- `(slot (..))`, inside it the outcome's word and fields in the order above with one blank between. Each printed line is
 -- closed by a line feed."
-use Prim.Native.Nat.{ℕ, zero, suc}
+use Prim.Native.Nat.{ℕ}
 use Prim.Native.String.{String}
-use mathlib.Core.Bool.{Bool, true, false, cond}
+use mathlib.Core.Bool.{true, false}
 use mathlib.Core.List.{List, [], _∷_, _++_}
 use lib.Dec.{eqb, ltb}
 use lib.ListN.{length}
@@ -12,7 +12,7 @@ use Rattle.definitions.specs.declared.Outcome.the-variants.{Real, Dummy, Idle, 
 use Rattle.definitions.specs.declared.Answer.{Answer}
 use Rattle.definitions.specs.declared.Answer.the-variants.{Accepted, Refused, Slot}
 use Rattle.definitions.specs.State.{Core, unopened}
-use Rattle.definitions.specs.Answers.{number, values}
+use Rattle.definitions.specs.Answers.{values}
 use Rattle.definitions.specs.Checks.{Result, refused}
 use Rattle.definitions.specs.Core.{step}
 use Rattle.grammar.specs.declared.Line.{Line}

@@ -1,6 +1,7 @@
+-- "One blank between parts, none elsewhere" (paper 01, "Script and printout").
 -- Templates: a text in which each # stands for a number. One template says how a form is written and how it is read.
 use Prim.Native.Nat.{ℕ}
-use mathlib.Core.Bool.{Bool, true, false, cond}
+use mathlib.Core.Bool.{true, false}
 use mathlib.Core.List.{List, [], _∷_, _++_}
 use mathlib.Core.Option.{Option, none, some}
 use lib.Dec.{eqb}
@@ -20,7 +21,7 @@ abbrev pub withNumber : ℕ → Option (List ℕ) → Option (List ℕ)
 withNumber n none = none
 withNumber n (some ns) = some (n ∷ ns)
 
--- the numbers in the gaps of some bytes that fit a template from end to end: "One blank between parts, none elsewhere."
+-- the numbers in the gaps of some bytes that fit a template from end to end
 unfoldable pub matched : List ℕ → List ℕ → Option (List ℕ)
 matched [] [] = some []
 matched [] (x ∷ xs) = none

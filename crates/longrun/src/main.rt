@@ -25,7 +25,8 @@ fn calls_in(blocks: u32) -> u64
     tables::wide(blocks) * (BLOCK as u64)
 }
 
-// Prints the line of the last of so many blocks. The seed stands here for the contract: what is printed is its check.
+// Prints the line of the last of so many blocks. The seed stands here for the contract: what is printed is its check. A line whose
+// end cannot be written is told on standard error.
 fn tell(seed: u32, blocks: u32, check: u32)
     requires { ⌜ check ≡ after seed (blocks * block) .check ⌝ }
 {
@@ -33,7 +34,9 @@ fn tell(seed: u32, blocks: u32, check: u32)
     io::print_decimal(STDOUT_FILENO, calls_in(blocks));
     io::write_all(STDOUT_FILENO, b" check ");
     io::print_decimal(STDOUT_FILENO, tables::wide(check));
-    io::write_all(STDOUT_FILENO, b")\n");
+    if !io::write_all(STDOUT_FILENO, b")\n") {
+        os::fail(b"longrun: standard output");
+    }
 }
 
 // So many blocks from a seed, with a line after each.

@@ -1,4 +1,4 @@
--- The laws of digits that the reader's loop goes by: what one digit more does to a number, and where the digits end.
+-- The laws of digits that the parser's loop goes by: what one digit more does to a number, and where the digits end.
 -- They hold because `digitOf` is below 10 just where the first byte is a digit.
 use Prim.Native.Nat.{ℕ, _+_, _-_, _*_, _≤_, _<_, min}
 use mathlib.Core.Path.{_≡_, refl}

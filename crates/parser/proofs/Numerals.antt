@@ -1,4 +1,4 @@
--- Where the reader stands within a number, digit by digit, from the first byte to what follows.
+-- Where the parser stands within a number, digit by digit, from the first byte to what follows.
 -- Each digit is taken off the front of the digits that are left and onto the value, which is compared up to the cap alone.
 use Prim.Native.Nat.{ℕ, _+_, _-_, _*_, _≤_, _<_, min}
 use mathlib.Core.Path.{_≡_, refl, sym, _∙_, ap}

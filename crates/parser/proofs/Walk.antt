@@ -1,4 +1,4 @@
--- Where the reader stands within a template and a line: what it has found so far, with what the rest of the template finds in
+-- Where the parser stands within a template and a line: what it has found so far, with what the rest of the template finds in
 -- the rest of the line, is what the template finds in the line. One law for each way that a byte of the template can go.
 use Prim.Native.Nat.{ℕ, zero, suc, _+_, _≤_, _<_, min}
 use mathlib.Core.Path.{_≡_, refl, sym, _∙_}

@@ -1,17 +1,16 @@
--- What a word is, by what the reader finds at its front. Assumes nothing.
-use Prim.Native.Nat.{ℕ, _-_, _≤_, _<_, min}
-use mathlib.Core.Path.{_≡_, refl, sym, ap, _∙_}
+-- What a word is, by what the parser finds at its front. Assumes nothing.
+use Prim.Native.Nat.{ℕ, _-_, _≤_, _<_}
+use mathlib.Core.Path.{_≡_, sym, ap, _∙_}
 use mathlib.Core.Bool.{true, false}
 use mathlib.Core.List.{List}
 use native.Mathlib.Omega.{arith}
 use borrow.Author.Tests.{eq-eqb, ne-eqb, le-leb, lt-leb}
-use lib.ListN.{length, drop, length-drop}
+use lib.ListN.{length, length-drop}
 use Rattle.grammar.specs.Bytes.{numberLimit}
-use Rattle.grammar.specs.Numerals.{leading, behind, isNumeral, valueFrom}
+use Rattle.grammar.specs.Numerals.{leading, behind, valueFrom}
 use Rattle.parser.specs.declared.Numeral.{Numeral}
-use Rattle.parser.specs.declared.Word.{Word}
 use Rattle.parser.specs.declared.Word.the-variants.{Number, Other}
-use Rattle.parser.specs.Numbers.{cap, Spells}
+use Rattle.parser.specs.Numbers.{Spells}
 use Rattle.parser.specs.Words.{wordOf}
 
 module _ {word : List ℕ} {n : Numeral} (s : Spells word word n) where

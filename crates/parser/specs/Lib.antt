@@ -1,4 +1,4 @@
--- What the functions of the reader find, said over the grammar's definitions.
+-- What the functions of the parser find, said over the grammar's definitions.
 pub mod Numbers
 pub mod Readings
 pub mod Words

@@ -1,4 +1,5 @@
--- Numbers as the reader finds them: byte by byte, with a mark for what is not there, and capped just above the limit, so that
+-- "A number has no sign and no leading zero, except 0 itself" (paper 01, "Script and printout").
+-- Numbers as the parser finds them: byte by byte, with a mark for what is not there, and capped just above the limit, so that
 -- any number of digits is read. The grammar's own words for them are `leading`, `isNumeral`, `valueFrom` and `behind`.
 use Prim.Native.Nat.{ℕ, _-_, min}
 use mathlib.Core.Path.{_≡_}

@@ -1,4 +1,4 @@
--- What a template finds in a line: the numbers in its gaps, as the reader collects them one after the other.
+-- What a template finds in a line: the numbers in its gaps, as the parser collects them one after the other.
 use Prim.Native.Nat.{ℕ}
 use mathlib.Core.Bool.{true, false, cond}
 use mathlib.Core.List.{List, [], _∷_}

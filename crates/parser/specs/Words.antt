@@ -1,5 +1,5 @@
--- A word that is one number and nothing else, spelled as the script spells numbers: no sign, no leading zero, no byte behind it,
--- and not above the largest that a form may have.
+-- A word that is one number of the script and nothing else: "A number has no sign and no leading zero, except 0 itself"
+-- (paper 01, "Script and printout"). No byte stands behind it, and it is not above the largest that a form may have.
 use Prim.Native.Nat.{ℕ}
 use mathlib.Core.Bool.{cond, _&&_}
 use mathlib.Core.List.{List}

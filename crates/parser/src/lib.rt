@@ -26,19 +26,19 @@ const LIMIT: u64 = 4294967295;
 const GAP: u64 = 35;
 
 // The second byte of each form.
-const OPEN: u64 = 111;
+const OPEN: u64 = b'o' as u64;
 
-const JOIN: u64 = 106;
+const JOIN: u64 = b'j' as u64;
 
-const CHANGE: u64 = 99;
+const CHANGE: u64 = b'c' as u64;
 
-const LEAVE_OR_LOAD: u64 = 108;
+const LEAVE_OR_LOAD: u64 = b'l' as u64;
 
-const ARRIVE: u64 = 97;
+const ARRIVE: u64 = b'a' as u64;
 
-const TICK: u64 = 116;
+const TICK: u64 = b't' as u64;
 
-// A number of a line: whether it is spelled right, its value, where any above the limit is one above it, and what follows it.
+// A number in a line: whether it is spelled right, its value, capped at one above the limit, and the place behind it.
 struct Numeral {
     is: bool,
     value: u64,

@@ -12,22 +12,12 @@ use borrow.Author.Tests.{eq-eqb, ne-eqb}
 use Rattle.definitions.proofs.Laws.Tests.{eqb-cases}
 use Rattle.grammar.specs.Numerals.{decimal}
 use Rattle.grammar.specs.Templates.{gap, filled}
+use Rattle.grammar.proofs.Decimals.{decimal-length}
+use Rattle.grammar.proofs.Filling.{filled-byte, filled-gap}
 use Rattle.printer.specs.Appended.{Appended}
-use Rattle.printer.specs.Printed.{line}
-use Rattle.printer.proofs.Decimals.{decimal-length}
+use Rattle.printer.specs.Printed.{lineRoom}
 
--- a gap is filled
-at-gap : (b n : ℕ) (bs ns : List ℕ) → b ≡ gap → filled (b ∷ bs) (n ∷ ns) ≡ decimal n ++ filled bs ns
-unfolding filled
-at-gap b n bs ns e = rw (eq-eqb b gap e, filled)
-
--- any other byte is written as it is
-at-byte : (b : ℕ) (bs ns : List ℕ) → (b ≡ gap → ⊥) → filled (b ∷ bs) ns ≡ b ∷ filled bs ns
-unfolding filled
-at-byte b bs [] ne = refl
-at-byte b bs (n ∷ ns) ne = rw (ne-eqb b gap ne, filled)
-
--- and so is every byte where no number is left
+-- every byte is written as it is where no number is left
 at-spent : (b : ℕ) (bs : List ℕ) → filled (b ∷ bs) [] ≡ b ∷ filled bs []
 unfolding filled
 at-spent b bs = refl
@@ -41,12 +31,12 @@ module _ (template numbers : List ℕ) (i k : ℕ) (more : i < length template) 
   pub next-gap : k < length numbers → getD template i 0 ≡ gap
       → filled (drop i template) (drop k numbers)
       ≡ decimal (getD numbers k 0) ++ filled (drop (i + 1) template) (drop (k + 1) numbers)
-  next-gap left e = rw (add-one i, add-one k, drop-cons template i 0 more, drop-cons numbers k 0 left) (at-gap _ _ _ _ e)
+  next-gap left e = rw (add-one i, add-one k, drop-cons template i 0 more, drop-cons numbers k 0 left) (filled-gap _ _ _ _ (eq-eqb _ gap e))
 
   pub next-byte : (getD template i 0 ≡ gap → ⊥)
       → filled (drop i template) (drop k numbers)
       ≡ (getD template i 0 ∷ []) ++ filled (drop (i + 1) template) (drop k numbers)
-  next-byte ne = rw (add-one, drop-cons template i 0 more) (at-byte _ _ _ ne)
+  next-byte ne = rw (add-one, drop-cons template i 0 more) (filled-byte _ _ _ (ne-eqb _ gap ne))
 
   pub next-spent : length numbers ≤ k
       → filled (drop i template) (drop k numbers)
@@ -72,10 +62,10 @@ filled-length (b ∷ bs) (n ∷ ns) small =
     (λ ne. omega (arith, filled-length bs (n ∷ ns) small))
 
 -- so a filled template has at most the room of a line, where that holds it with ten bytes for each number
-module _ (template numbers : List ℕ) (small : Small numbers) (short : length template + 10 * length numbers ≤ line) where
-  pub filled-room : (at : ℕ) {size : ℕ} → at + line ≤ size → at + length (filled template numbers) ≤ size
+module _ (template numbers : List ℕ) (small : Small numbers) (short : length template + 10 * length numbers ≤ lineRoom) where
+  pub filled-room : (at : ℕ) {size : ℕ} → at + lineRoom ≤ size → at + length (filled template numbers) ≤ size
   filled-room at room = omega (arith, filled-length template numbers small)
 
   pub filled-end : {before : List ℕ} {at : ℕ} {after : List ℕ} {end : ℕ}
-      → Appended (filled template numbers) before at after end → end ≤ at + line
+      → Appended (filled template numbers) before at after end → end ≤ at + lineRoom
   filled-end a = omega (arith, filled-length template numbers small, a .place)

@@ -9,10 +9,10 @@ use Rattle.grammar.specs.Printout.{printed}
 use Rattle.printer.specs.Appended.{Appended}
 
 -- the room of a line
-abbrev pub line : ℕ
-line = 64
+abbrev pub lineRoom : ℕ
+lineRoom = 64
 
 pub record Printed (answer : Answer) (before : List ℕ) (at : ℕ) (after : List ℕ) (end : ℕ) : Type 0 where
-  pub written : at + line ≤ length before → Appended (printed answer) before at after end
-  pub untouched : length before < at + line → (end ≡ at) × (after ≡ before)
-  pub short : end ≤ at + line
+  pub written : at + lineRoom ≤ length before → Appended (printed answer) before at after end
+  pub untouched : length before < at + lineRoom → (end ≡ at) × (after ≡ before)
+  pub short : end ≤ at + lineRoom

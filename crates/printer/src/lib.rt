@@ -7,10 +7,10 @@ ghost use Rattle.grammar.specs.Numerals.{decimal};
 ghost use Rattle.grammar.specs.Templates.{filled};
 ghost use Rattle.grammar.specs.Printout.{printed};
 ghost use Rattle.printer.specs.Appended.{Appended};
-ghost use Rattle.printer.specs.Printed.{line, Printed};
+ghost use Rattle.printer.specs.Printed.{lineRoom, Printed};
 
 // The room that a line is given. No line of numbers of 32 bits is longer.
-pub const LINE: usize = 64;
+const LINE_ROOM: usize = 64;
 
 // Stands in a template for a number.
 const GAP: u8 = b'#';
@@ -63,9 +63,9 @@ fn fill(out: &mut [u8], at: usize, template: &[u8], numbers: &[u32]) -> usize
 
 // Writes the line of a slot.
 fn slot(out: &mut [u8], at: usize, outcome: Outcome) -> usize
-    requires { ⌜ at + line ≤ length (now out) ⌝ }
+    requires { ⌜ at + lineRoom ≤ length (now out) ⌝ }
     ensures { λ r. ⌜ Appended (printed (Answer.Slot outcome)) (now (out .entry)) at (now (out .exit)) r ⌝ }
-    ensures { λ r. ⌜ r ≤ at + line ⌝ }
+    ensures { λ r. ⌜ r ≤ at + lineRoom ⌝ }
 {
     match outcome {
         Outcome::Real {
@@ -95,10 +95,10 @@ fn slot(out: &mut [u8], at: usize, outcome: Outcome) -> usize
 pub fn print(out: &mut [u8], at: usize, answer: Answer) -> usize
     ensures { λ r. ⌜ Printed answer (now (out .entry)) at (now (out .exit)) r ⌝ }
 {
-    if out.len() < LINE {
+    if out.len() < LINE_ROOM {
         return at;
     }
-    if out.len() - LINE < at {
+    if out.len() - LINE_ROOM < at {
         return at;
     }
     match answer {

@@ -12,7 +12,7 @@ use lib.Seq.{drop-cons, getD-drop}
 use borrow.Author.Tests.{eqb-true, eqb-false, eq-eqb, ne-eqb, lt-ltb, le-ltb}
 use Rattle.grammar.specs.Bytes.{lineFeed, Unbroken}
 use Rattle.reader.specs.declared.Span.{Span}
-use Rattle.reader.specs.Lines.{lineLength, lineEnd, behind, spanAt, LineEnd}
+use Rattle.reader.specs.Lines.{lineLength, lineEnd, afterLine, spanAt, LineEnd}
 
 -- ---- one byte further
 feed-first : (b : ℕ) (bs : List ℕ) → b ≡ lineFeed → lineLength (b ∷ bs) ≡ 0
@@ -45,13 +45,13 @@ module _ (text : List ℕ) (at : ℕ) where
 
 -- ---- the place behind a line
 module _ (text : List ℕ) (end : ℕ) where
-  pub behind-feed : end < length text → end + 1 ≡ behind text end
-  unfolding behind
-  behind-feed inside = rw (behind, lt-ltb end (length text) inside) refl
+  pub after-line-feed : end < length text → end + 1 ≡ afterLine text end
+  unfolding afterLine
+  after-line-feed inside = rw (afterLine, lt-ltb end (length text) inside) refl
 
-  pub behind-last : length text ≤ end → end ≡ behind text end
-  unfolding behind
-  behind-last past = rw (behind, le-ltb end (length text) past) refl
+  pub after-line-last : length text ≤ end → end ≡ afterLine text end
+  unfolding afterLine
+  after-line-last past = rw (afterLine, le-ltb end (length text) past) refl
 
 -- ---- what holds at the end of a line
 record Cut (bs : List ℕ) (n : ℕ) : Type 0 where
@@ -87,14 +87,14 @@ line-ends text at inside =
 
 -- ---- a line that was read
 module _ (text : List ℕ) (at : ℕ) (span : Span) (read : span ≡ spanAt text at) where
-  behind-is : span .next ≡ behind text (span .end)
-  behind-is = ap (λ (p : Span). p .next) read ∙ ap (λ (p : Span). behind text (p .end)) (sym read)
+  span-next : span .next ≡ afterLine text (span .end)
+  span-next = ap (λ (p : Span). p .next) read ∙ ap (λ (p : Span). afterLine text (p .end)) (sym read)
 
   pub span-end : at ≤ length text → LineEnd text at (span .end)
   span-end inside = subst (LineEnd text at) (ap (λ (p : Span). p .end) (sym read)) (line-ends text at inside)
 
   pub span-feed : span .end < length text → span .next ≡ suc (span .end)
-  span-feed inside = behind-is ∙ sym (behind-feed text (span .end) inside) ∙ add-one (span .end)
+  span-feed inside = span-next ∙ sym (after-line-feed text (span .end) inside) ∙ add-one (span .end)
 
   pub span-last : length text ≤ span .end → span .next ≡ span .end
-  span-last past = behind-is ∙ sym (behind-last text (span .end) past)
+  span-last past = span-next ∙ sym (after-line-last text (span .end) past)

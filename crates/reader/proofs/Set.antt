@@ -1,6 +1,7 @@
 -- A reader that `new` makes of a text and that is then set at a place: what `line_at` and `ended` begin with.
 --     begun, made              the reader that `new` gives, and the same at the place n
---     goes-new                 what a function with the text and a number has at entry gives what `new` asks, and what text owns is kept. A `&[u8]` is Copy, so that is had twice
+--     goes-new                 what a function with the text and a number has at entry gives what `new` asks, and what text
+--                              owns is kept. A `&[u8]` is Copy, so that is had twice
 --     new-said, is-begun       of what `new` ensures: the reader that it gives is `begun`
 --     sets                     the number's facts take the place of those of 0
 -- Assumes nothing.

@@ -1,5 +1,5 @@
--- The lines of a text, from any place of it (paper 01, "Script and printout": "One form a line, each line closed by a line feed").
--- Every place has a line, which may be empty: behind the last byte it ends where it begins.
+-- The lines of a text, from any place of it (paper 01, "Script and printout": "One form a line, each line closed by a line
+-- feed"). Every place has a line, which may be empty: behind the last byte it ends where it begins.
 use Prim.Native.Nat.{ℕ, suc, _+_, _-_, _≤_, _<_}
 use mathlib.Core.Path.{_≡_}
 use mathlib.Core.Bool.{Bool, true, false}
@@ -19,8 +19,8 @@ unfoldable pub lineEnd : List ℕ → ℕ → ℕ
 lineEnd text at = at + lineLength (drop at text)
 
 -- the place behind a line that ends there: its line feed is passed, if it has one
-unfoldable pub behind : List ℕ → ℕ → ℕ
-behind text end = elim (ltb end (length text)) [ true ↦ end + 1 | false ↦ end ]
+unfoldable pub afterLine : List ℕ → ℕ → ℕ
+afterLine text end = elim (ltb end (length text)) [ true ↦ end + 1 | false ↦ end ]
 
 -- no byte stands at a place
 abbrev pub isEnd : List ℕ → ℕ → Bool
@@ -28,13 +28,14 @@ isEnd text at = leb (length text) at
 
 -- the line that begins at a place
 abbrev pub spanAt : List ℕ → ℕ → Span
-spanAt text at = record { end = lineEnd text at; next = behind text (lineEnd text at) }
+spanAt text at = record { end = lineEnd text at; next = afterLine text (lineEnd text at) }
 
 -- the bytes from one place of a text up to another
 abbrev pub between : List ℕ → ℕ → ℕ → List ℕ
 between text at end = take (end - at) (drop at text)
 
--- what holds of the end of a line that begins within the text: no line feed stands before it, and one stands there, unless the text ends
+-- what holds of the end of a line that begins within the text: no line feed stands before it, and one stands there, unless the
+-- text ends
 pub record LineEnd (text : List ℕ) (at end : ℕ) : Type 0 where
   pub forth : at ≤ end
   pub within : end ≤ length text

@@ -1,8 +1,8 @@
 // A reader: it walks a lent text line by line and remembers its place. The work is done by functions on a slice and a number;
-// those over the struct take it apart and call them. `line_at` and `ended` have plain parameters: whoever calls them needs no
-// struct that holds a reference.
+// those over the struct take it apart and call them, and are public since the paper names this form. `line_at` and `ended` have
+// plain parameters: whoever calls them needs no struct that holds a reference.
 ghost use mathlib.Core.Path.{_≡_};
-ghost use Rattle.reader.specs.Lines.{lineEnd, behind, isEnd, spanAt};
+ghost use Rattle.reader.specs.Lines.{lineEnd, afterLine, isEnd, spanAt};
 ghost use Rattle.reader.specs.Place.{moved};
 
 pub struct Reader<'a> {
@@ -19,7 +19,7 @@ pub struct Span {
 const LINE_FEED: u8 = 10;
 
 // Where the line that begins at `at` ends: at its line feed, or at the end of the text.
-pub fn line_end(text: &[u8], at: usize) -> usize
+fn line_end(text: &[u8], at: usize) -> usize
     ensures { λ r. ⌜ r ≡ lineEnd (now (text .entry)) at ⌝ }
 {
     let mut end = at;
@@ -33,14 +33,14 @@ pub fn line_end(text: &[u8], at: usize) -> usize
 }
 
 // The place behind a line that ends at `end`: its line feed is passed, if it has one.
-pub fn after_line(text: &[u8], end: usize) -> usize
-    ensures { λ r. ⌜ r ≡ behind (now (text .entry)) end ⌝ }
+fn after_line(text: &[u8], end: usize) -> usize
+    ensures { λ r. ⌜ r ≡ afterLine (now (text .entry)) end ⌝ }
 {
     if end < text.len() { end + 1 } else { end }
 }
 
 // Whether no byte stands at a place.
-pub fn is_end(text: &[u8], at: usize) -> bool
+fn is_end(text: &[u8], at: usize) -> bool
     ensures { λ r. ⌜ r ≡ isEnd (now (text .entry)) at ⌝ }
 {
     at >= text.len()

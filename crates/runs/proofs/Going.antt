@@ -11,8 +11,8 @@ use Rattle.tables.specs.Invariant.{Valid}
 use Rattle.tables.specs.Promise.{Meets}
 use Rattle.runs.specs.declared.Progress.{Progress}
 use Rattle.runs.specs.Calls.{callOf}
-use Rattle.runs.specs.Check.{checked}
-use Rattle.runs.specs.LongRun.{LongRun, draw, callFrom, next, further, after}
+use Rattle.runs.specs.Check.{checkWith}
+use Rattle.runs.specs.LongRun.{LongRun, nthDraw, callFrom, next, further, after}
 use Rattle.runs.specs.Stands.{runOf, Begins, Goes}
 
 further-add : (run : LongRun) (m n : ℕ) → further (m + n) run ≡ further n (further m run)
@@ -42,9 +42,9 @@ pub goes-once : (p : Progress) (t : Tables) {a b c d : Generator} {call : Call} 
     → d .value ≡ stepped (c .value)
     → call ≡ callOf (a .value) (b .value) (c .value) (d .value)
     → Meets call (p .control) t r u
-    → h ≡ checked (p .check) (r .answer)
+    → h ≡ checkWith (p .check) (r .answer)
     → Goes 1 p t (record { control = r .control; maker = d; check = h }) u
-unfolding further next callFrom draw
+unfolding further next callFrom nthDraw
 goes-once p t ea eb ec ed made m e =
     record { run = cc (m .core, m .answer, made, e); valid = m .valid }
 

@@ -1,4 +1,4 @@
--- The calls of a long run (the page "Long runs", "The calls"). "Each call takes four draws, a, b, c and d, in this order,
+-- The calls of a long run (docs/LONG_RUNS.md, "The calls"). "Each call takes four draws, a, b, c and d, in this order,
 -- whatever call it is."
 use Prim.Native.Nat.{ℕ, _+_, _/_, _%_}
 use mathlib.Core.Bool.{cond}
@@ -26,7 +26,7 @@ burstOf type d = cond (eqb type 1) (d / 64 % 66) (d / 64 % 66 / 65)
 abbrev pub packetOf : ℕ → ℕ → Packet
 packetOf c d = record { handle = d; length = 63 + c % 1457 }
 
--- the page's table, by the last k of each row: the rows of load, arrive and tick, and then the whole
+-- the table of the calls, by the last k of each row: the rows of load, arrive and tick, and then the whole
 unfoldable pub trafficAt : ℕ → ℕ → ℕ → ℕ → Call
 trafficAt k id c d = cond (leb k 516) (Load id (c % 130)) (cond (leb k 3395) (Arrive id (packetOf c d)) Tick)
 

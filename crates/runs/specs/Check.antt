@@ -1,4 +1,4 @@
--- The check of the answers (the page "Long runs", "The check"): a number of 32 bits into which each answer mixes its words.
+-- The check of the answers (docs/LONG_RUNS.md, "The check"): a number of 32 bits into which each answer mixes its words.
 use Prim.Native.Nat.{ℕ, _+_, _%_, _^_}
 use mathlib.Core.List.{List, [], _∷_}
 use Rattle.definitions.specs.declared.Outcome.{Outcome}
@@ -29,5 +29,5 @@ words (Refused n) = 2 ∷ n ∷ []
 words (Slot outcome) = slotWord outcome ∷ values outcome
 
 -- "An answer mixes in its words, in this order"
-unfoldable pub checked : ℕ → Answer → ℕ
-checked h answer = mixed h (words answer)
+unfoldable pub checkWith : ℕ → Answer → ℕ
+checkWith h answer = mixed h (words answer)

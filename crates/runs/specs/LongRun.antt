@@ -1,4 +1,4 @@
--- A long run (the page "Long runs"): it "makes calls from a seed and keeps a running check of the answers".
+-- A long run (docs/LONG_RUNS.md): it "makes calls from a seed and keeps a running check of the answers".
 use Prim.Native.Nat.{ℕ, zero, suc}
 use Rattle.definitions.specs.declared.Call.{Call}
 use Rattle.definitions.specs.Generator.{stepped}
@@ -6,7 +6,7 @@ use Rattle.definitions.specs.State.{Core, unopened}
 use Rattle.definitions.specs.Checks.{Result}
 use Rattle.definitions.specs.Core.{step}
 use Rattle.runs.specs.Calls.{callOf}
-use Rattle.runs.specs.Check.{checked}
+use Rattle.runs.specs.Check.{checkWith}
 
 -- what a long run has between two calls: the core, the value of the maker of calls, and the check
 pub record LongRun : Type 0 where
@@ -19,19 +19,19 @@ unfoldable pub begun : ℕ → LongRun
 begun seed = record { core = unopened; value = seed; check = 0 }
 
 -- the n-th draw: it "steps it by xorshift32 .. and gives the new v"
-unfoldable pub draw : ℕ → ℕ → ℕ
-draw zero v = v
-draw (suc n) v = stepped (draw n v)
+unfoldable pub nthDraw : ℕ → ℕ → ℕ
+nthDraw zero v = v
+nthDraw (suc n) v = stepped (nthDraw n v)
 
 unfoldable pub callFrom : ℕ → Call
-callFrom v = callOf (draw 1 v) (draw 2 v) (draw 3 v) (draw 4 v)
+callFrom v = callOf (nthDraw 1 v) (nthDraw 2 v) (nthDraw 3 v) (nthDraw 4 v)
 
 -- a call's answer goes into the check
 abbrev pub taken : LongRun → Result → LongRun
 taken run result = record {
   core = result .core;
-  value = draw 4 (run .value);
-  check = checked (run .check) (result .answer);
+  value = nthDraw 4 (run .value);
+  check = checkWith (run .check) (result .answer);
 }
 
 -- one call more, and so many

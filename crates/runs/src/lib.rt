@@ -13,8 +13,7 @@ ghost use mathlib.Core.Path.{_≡_};
 ghost use Rattle.tables.specs.Tables.{tables};
 ghost use Rattle.tables.specs.Invariant.{Valid};
 ghost use Rattle.runs.specs.Calls.{idOf, burstOf, trafficAt, callOf};
-ghost use Rattle.runs.specs.Check.{mix, checked};
-ghost use Rattle.runs.specs.LongRun.{after};
+ghost use Rattle.runs.specs.Check.{mix, checkWith};
 ghost use Rattle.runs.specs.Stands.{Begins, Goes};
 
 // How far a long run has come, beside its tables: the core's control, the maker of calls, and the check.
@@ -62,7 +61,7 @@ fn traffic_of(k: u32, id: u32, c: u32, d: u32) -> Call
 }
 
 // The call that four draws make.
-pub fn call_of(a: u32, b: u32, c: u32, d: u32) -> Call
+fn call_of(a: u32, b: u32, c: u32, d: u32) -> Call
     ensures { λ r. ⌜ r ≡ callOf a b c d ⌝ }
 {
     let k = a % 4096;
@@ -108,7 +107,7 @@ fn mix(h: u32, w: u32) -> u32
 }
 
 fn check_slot(h: u32, outcome: Outcome) -> u32
-    ensures { λ r. ⌜ r ≡ checked h (Answer.Slot outcome) ⌝ }
+    ensures { λ r. ⌜ r ≡ checkWith h (Answer.Slot outcome) ⌝ }
 {
     match outcome {
         Outcome::Real {
@@ -126,8 +125,8 @@ fn check_slot(h: u32, outcome: Outcome) -> u32
 }
 
 // The check with an answer's words mixed in.
-pub fn check(h: u32, answer: Answer) -> u32
-    ensures { λ r. ⌜ r ≡ checked h answer ⌝ }
+fn check(h: u32, answer: Answer) -> u32
+    ensures { λ r. ⌜ r ≡ checkWith h answer ⌝ }
 {
     match answer {
         Answer::Accepted => mix(h, 1),
@@ -197,23 +196,4 @@ pub fn calls(
         made += 1;
     }
     at
-}
-
-// The check after so many calls from a seed.
-pub fn check_after(seed: u32, count: u32) -> u32
-    ensures { λ r. ⌜ r ≡ after seed count .check ⌝ }
-{
-    let mut clients: [u32; CLIENTS] = [0; CLIENTS];
-    let mut handles: [u32; STORE] = [0; STORE];
-    let mut lengths: [u32; STORE] = [0; STORE];
-    let mut links: [u32; LINKS] = [0; LINKS];
-    let last = calls(
-        begin(seed),
-        &mut clients,
-        &mut handles,
-        &mut lengths,
-        &mut links,
-        count,
-    );
-    last.check
 }

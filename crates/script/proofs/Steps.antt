@@ -1,20 +1,19 @@
 -- One line further: from what a walk over a script kept before a line to what it keeps after it. Assumes nothing.
-use Prim.Native.Nat.{ℕ, zero, suc, _+_, _*_, _-_, _≤_, _<_}
-use mathlib.Core.Path.{_≡_, refl, sym, ap, _∙_}
+use Prim.Native.Nat.{ℕ, suc, _+_, _*_, _-_, _≤_, _<_}
+use mathlib.Core.Path.{_≡_, sym, ap, _∙_}
 use mathlib.Core.List.{List, [], _∷_, _++_, append-assoc, append-nil}
 use native.Mathlib.Omega.{arith}
-use lib.ListN.{length, getD, take, drop, length-drop, take-append-drop}
-use lib.Seq.{drop-cons, drop-drop, drop-length, take-length}
-use Rattle.definitions.specs.declared.Answer.{Answer}
+use lib.ListN.{length, getD, take, drop, take-append-drop}
+use lib.Seq.{drop-cons, drop-drop, drop-length}
 use Rattle.definitions.specs.declared.Answer.the-variants.{Refused}
 use Rattle.definitions.specs.State.{Core, unopened}
-use Rattle.definitions.specs.Checks.{Result}
 use Rattle.grammar.specs.Bytes.{lineFeed, Unbroken}
 use Rattle.grammar.specs.Grammar.{parsed}
 use Rattle.grammar.specs.Printout.{printed, answered, printedFrom}
 use Rattle.grammar.proofs.Lines.{line-closed, line-open}
+use Rattle.printer.specs.Printed.{lineRoom}
 use Rattle.reader.specs.Lines.{between}
-use Rattle.script.specs.Walk.{lineRoom, Walked}
+use Rattle.script.specs.Walk.{Walked}
 
 module _ (text : List ℕ) (at end : ℕ) (forth : at ≤ end) where
   -- a closed line, and the rest

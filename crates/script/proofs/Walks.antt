@@ -1,7 +1,7 @@
 -- What a line of the code leaves: the walk goes on behind it, whether its bytes were no line, held no form, or held a call that
 -- was carried out. A line prints no more than thirteen bytes for each of its own, so there is room for the rest. Assumes nothing.
-use Prim.Native.Nat.{ℕ, suc, _+_, _*_, _-_, _≤_, _<_}
-use mathlib.Core.Path.{_≡_, refl, sym, ap, subst, _∙_}
+use Prim.Native.Nat.{ℕ, suc, _-_, _≤_, _<_}
+use mathlib.Core.Path.{_≡_, sym, ap, subst, _∙_}
 use mathlib.Core.List.{List, _++_}
 use native.Mathlib.Omega.{arith}
 use lib.ListN.{length, take, drop, length-drop, length-take}
@@ -12,7 +12,6 @@ use Rattle.definitions.specs.declared.Answer.the-variants.{Refused}
 use Rattle.definitions.specs.State.{Core}
 use Rattle.definitions.specs.Checks.{Result, refused}
 use Rattle.definitions.specs.Core.{step}
-use Rattle.grammar.specs.declared.Line.{Line}
 use Rattle.grammar.specs.declared.Line.the-variants.{Form, Refused as Unread}
 use Rattle.grammar.specs.Bytes.{Unbroken}
 use Rattle.grammar.specs.Grammar.{parsed}

@@ -1,3 +1,4 @@
+-- "Each line prints one line" (paper 01, "Script and printout").
 -- What holds between two lines of a script: what has been written, and behind it what the rest of the text prints, is the
 -- printout of the whole; and there is room for it.
 use Prim.Native.Nat.{ℕ, _+_, _*_, _-_, _≤_}
@@ -11,15 +12,13 @@ use Rattle.grammar.specs.Bytes.{textLimit}
 use Rattle.grammar.specs.declared.Line.{Line}
 use Rattle.grammar.specs.declared.Line.the-variants.{Form, Refused}
 use Rattle.grammar.specs.Printout.{printedFrom, printout}
+use Rattle.printer.specs.Printed.{lineRoom}
 use Rattle.tables.specs.declared.Control.{Control}
 use Rattle.tables.specs.Tables.{Tables}
 use Rattle.tables.specs.Meaning.{coreOf}
 use Rattle.tables.specs.Invariant.{Valid}
 
--- A line takes at most 64 bytes, and no more than thirteen for each byte of its own.
-abbrev pub lineRoom : ℕ
-lineRoom = 64
-
+-- room for any printout: a line prints no more than thirteen bytes for each of its own, and the printer asks for `lineRoom`
 unfoldable pub outRoom : ℕ
 outRoom = 13 * textLimit + lineRoom
 
@@ -34,9 +33,9 @@ pub record Walking (text : List ℕ) (at : ℕ) (out : List ℕ) (written : ℕ)
   pub valid : Valid c t
 
 -- the number of a line that holds no form
-abbrev pub numberOf : Line → ℕ
-numberOf (Form call) = 0
-numberOf (Refused number) = number
+abbrev pub unreadNumber : Line → ℕ
+unreadNumber (Form call) = 0
+unreadNumber (Refused number) = number
 
 -- what a run gives: the printout, where there is room for any
 unfoldable pub given : List ℕ → ℕ → List ℕ

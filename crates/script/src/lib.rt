@@ -16,7 +16,7 @@ ghost use Rattle.grammar.specs.Printout.{printedFrom};
 ghost use Rattle.tables.specs.Tables.{tables};
 ghost use Rattle.tables.specs.Invariant.{Valid};
 ghost use Rattle.tables.specs.Promise.{Meets};
-ghost use Rattle.script.specs.Walk.{given, numberOf, Walking};
+ghost use Rattle.script.specs.Walk.{given, unreadNumber, Walking};
 
 // The longest text that is read, and the room that its printout may take.
 pub const TEXT_LIMIT: usize = 60000;
@@ -120,8 +120,8 @@ pub fn perform(
 }
 
 // The number that a line without a form is answered with.
-fn refusal(read: Line) -> u32
-    ensures { λ r. ⌜ r ≡ numberOf read ⌝ }
+fn unread_number(read: Line) -> u32
+    ensures { λ r. ⌜ r ≡ unreadNumber read ⌝ }
 {
     match read {
         Line::Form { call: _ } => 0,
@@ -159,7 +159,7 @@ fn line(
     }
     let read = parser::parse(&text[at..end]);
     let Line::Form { call } = read else {
-        let number = refusal(read);
+        let number = unread_number(read);
         let more = printer::print(out, written, Answer::Refused { number });
         return Progress {
             control,

@@ -4,6 +4,7 @@ use Prim.Native.Nat.{ℕ}
 use mathlib.Core.Path.{_≡_}
 use mathlib.Core.List.{List}
 use lib.ListN.{length}
+use Rattle.script.specs.Walk.{outRoom}
 
 unfoldable pub Room : List ℕ → Type 0
-Room bytes = 780064 ≡ length bytes
+Room bytes = outRoom ≡ length bytes

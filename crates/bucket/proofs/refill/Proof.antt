@@ -1,6 +1,6 @@
--- `bucket::refill` meets its contract: a walk of its MIR, by hand. The borrow is opened, the three numbers are read, the level that
--- `filled` gives for them is stored, and the borrow is closed at the bucket with that level, its rate and burst as they were. All
--- that it knows of `filled` is that it meets its contract. Assumes nothing.
+-- `bucket::refill` meets its contract: a walk of its MIR, by hand. The borrow is opened, the three numbers are read, the
+-- level that `filled` gives for them is stored, and the borrow is closed at the bucket with that level, its rate and burst as
+-- they were. All that it knows of `filled` is that it meets its contract. Assumes nothing.
 use mathlib.Core.Path.{_≡_, refl, ap}
 use Prim.Native.Nat.{ℕ, _<_, _^_}
 use mathlib.Core.List.{[], _∷_, List}

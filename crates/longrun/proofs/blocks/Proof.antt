@@ -1,5 +1,5 @@
--- `longrun::blocks` meets its contract. The loop's invariant: the calls made so far are those of so many blocks. The measure is how
--- many blocks are left. Assumes nothing.
+-- `longrun::blocks` meets its contract. The loop's invariant: the calls made so far are those of so many blocks. The measure
+-- is how many blocks are left. Assumes nothing.
 use Prim.Native.Nat.{_*_, _-_, _≤_}
 use native.Mathlib.Omega.{arith}
 use borrow.Author.Needs.{needs}

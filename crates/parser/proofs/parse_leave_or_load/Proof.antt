@@ -1,5 +1,5 @@
--- `parser::parse_leave_or_load` meets its contract: the first form that fits decides, and where neither does the line is none of them.
--- Assumes nothing.
+-- `parser::parse_leave_or_load` meets its contract: the first form that fits decides, and where neither does the line is none
+-- of them. Assumes nothing.
 use mathlib.Core.Path.{sym, _∙_}
 use mathlib.Core.List.{[]}
 use lib.ListN.{drop, take}

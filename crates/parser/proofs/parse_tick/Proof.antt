@@ -2,7 +2,6 @@
 -- Assumes nothing.
 use mathlib.Core.Path.{sym, _∙_}
 use mathlib.Core.List.{[]}
-use lib.ListN.{drop, take}
 use Rattle.definitions.specs.declared.Call.the-variants.{Tick}
 use Rattle.grammar.specs.Grammar.{rules}
 use Rattle.parser.proofs.Forms.{no-rule, rule-fits, rule-off}

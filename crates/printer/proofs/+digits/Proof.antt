@@ -8,7 +8,7 @@ use mathlib.Core.Path.{ap}
 use lib.ListN.{length, length-set}
 use borrow.Fn.Kinds.{In}
 use borrow.Fn.PlainCycle.{Measures, is, falls, and}
-use Rattle.printer.proofs.Decimals.{decimal-low, decimal-high, decimal-two, decimal-some, decimal-longer}
+use Rattle.grammar.proofs.Decimals.{decimal-low, decimal-high, decimal-two, decimal-some, decimal-longer}
 use Rattle.printer.proofs.Appending.{appended-byte, appended-two, appended-more, appended-length}
 use Rattle.printer.proofs.digits.Reads as reads
 use Rattle.printer.proofs.digits.Kinds as kinds

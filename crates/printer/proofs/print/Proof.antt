@@ -9,7 +9,7 @@ use lib.ListN.{length}
 use Rattle.grammar.specs.Templates.{filled}
 use Rattle.grammar.specs.Printout.{printed}
 use Rattle.printer.specs.Appended.{Appended}
-use Rattle.printer.specs.Printed.{line, Printed}
+use Rattle.printer.specs.Printed.{lineRoom, Printed}
 use Rattle.printer.proofs.Filling.{filled-room, filled-end}
 use Rattle.printer.proofs.Appending.{appended-as}
 use Rattle.printer.proofs.print.Statement.{statement}
@@ -19,13 +19,13 @@ use Rattle.printer.proofs.print.Tie as tie
 abbrev start : tie.Else2 → tie.Start
 start c = c .before .before .before
 
-roomy : (c : tie.Else2) → start c .args .at + line ≤ length (start c .args .out .now)
+roomy : (c : tie.Else2) → start c .args .at + lineRoom ≤ length (start c .args .out .now)
 roomy c = omega arith
 
 wrote : (c : tie.Else2) (after : List ℕ) (end : ℕ) →
     let args = start c .args in
     Appended (printed (args .answer)) (args .out .now) (args .at) after end
-    → end ≤ args .at + line → Printed (args .answer) (args .out .now) (args .at) after end
+    → end ≤ args .at + lineRoom → Printed (args .answer) (args .out .now) (args .at) after end
 wrote c after end a short = record { written = λ room. a; untouched = λ none. absurd (omega (arith, roomy c)); short = short }
 
 returns : tie.Need-returns

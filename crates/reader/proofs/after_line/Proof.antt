@@ -1,7 +1,7 @@
 -- `reader::after_line` meets its contract: the test says whether a line feed is passed. Assumes nothing.
 use native.Mathlib.Omega.{arith}
 use borrow.Author.Needs.{needs}
-use Rattle.reader.proofs.Ends.{behind-feed, behind-last}
+use Rattle.reader.proofs.Ends.{after-line-feed, after-line-last}
 use Rattle.reader.proofs.after_line.Statement.{statement}
 use Rattle.reader.proofs.after_line.Tie as tie
 
@@ -9,10 +9,10 @@ add-result : tie.Need-add-result
 add-result c = search needs
 
 returns : tie.Need-returns
-returns c = behind-feed _ _ (omega arith)
+returns c = after-line-feed _ _ (omega arith)
 
 returns-2 : tie.Need-returns-2
-returns-2 c = behind-last _ _ (omega arith)
+returns-2 c = after-line-last _ _ (omega arith)
 
 pub after-line-spec : {M : Type 1} → statement M
 after-line-spec = tie.close (tie.spec add-result returns returns-2)

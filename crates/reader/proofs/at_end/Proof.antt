@@ -1,6 +1,7 @@
--- `reader::at_end` meets its contract: a walk of its MIR, by hand. The struct is taken apart, and `is_end` is called on the slice and the number. All that the proof knows of `is_end` is that it meets its contract.
--- The struct is Copy: what it owns is had twice, one copy is kept whole for the exit, and of the other what text owns goes to the callee, beside the lifetime's token, which comes back.
--- Assumes nothing.
+-- `reader::at_end` meets its contract: a walk of its MIR, by hand. The struct is taken apart, and `is_end` is called on the
+-- slice and the number. All that the proof knows of `is_end` is that it meets its contract.
+-- The struct is Copy: what it owns is had twice, one copy is kept whole for the exit, and of the other what text owns goes to
+-- the callee, beside the lifetime's token, which comes back. Assumes nothing.
 use mathlib.Core.Path.{_≡_, refl}
 use Prim.Native.Nat.{_<_, _^_}
 use mathlib.Core.Bool.{Bool}

@@ -1,5 +1,5 @@
--- `reader::ended` meets its contract: a walk of its MIR, by hand. A `Reader` that `new` makes is set at the place and passed to `at_end` (`Set.antt`). All that the proof knows of the two is that each meets its contract.
--- Assumes nothing.
+-- `reader::ended` meets its contract: a walk of its MIR, by hand. A `Reader` that `new` makes is set at the place and passed
+-- to `at_end` (`Set.antt`). All that the proof knows of the two is that each meets its contract. Assumes nothing.
 use mathlib.Core.Path.{_≡_, refl, ap}
 use Prim.Native.Nat.{ℕ, _<_, _^_}
 use mathlib.Core.Bool.{Bool}

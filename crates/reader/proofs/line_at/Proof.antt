@@ -1,6 +1,9 @@
--- `reader::line_at` meets its contract: a walk of its MIR, by hand. A `Reader` that `new` makes is set at the place (`Set.antt`), lent to `next`, and passed to `place` once it is back. All that the proof knows of the three is that each meets its contract.
--- `next` asks that the text outlives the loan. So the loan's lifetime is a new atom within the text's, ν ∷ κ: half of κ's token makes its token, and the other half goes to `next` beside it. The local comes back at the last value that `next` says.
--- Assumes nothing.
+-- `reader::line_at` meets its contract: a walk of its MIR, by hand. A `Reader` that `new` makes is set at the place
+-- (`Set.antt`), lent to `next`, and passed to `place` once it is back. All that the proof knows of the three is that each
+-- meets its contract.
+-- `next` asks that the text outlives the loan. So the loan's lifetime is a new atom within the text's, ν ∷ κ: half of κ's
+-- token makes its token, and the other half goes to `next` beside it. The local comes back at the last value that `next`
+-- says. Assumes nothing.
 use mathlib.Core.Path.{_≡_, refl, ap, _∙_}
 use Prim.Native.Nat.{ℕ, _<_, _^_}
 use mathlib.Core.List.{List, [], _∷_}

@@ -1,6 +1,9 @@
--- `reader::next` meets its contract: a walk of its MIR, by hand. The borrow is opened, `line_end` is called on the slice and the number and `after_line` on the slice and what it gave, the number is stored, and the borrow is closed at the moved reader.
--- The struct is Copy: what it owns is had twice, one copy is kept for the closing, with the number's facts made anew (`again`), and of the other what text owns goes to each callee beside the lifetime's token, which comes back. All that the proof knows of the callees is that they meet their contracts.
--- Assumes nothing.
+-- `reader::next` meets its contract: a walk of its MIR, by hand. The borrow is opened, `line_end` is called on the slice and
+-- the number and `after_line` on the slice and what it gave, the number is stored, and the borrow is closed at the moved
+-- reader.
+-- The struct is Copy: what it owns is had twice, one copy is kept for the closing, with the number's facts made anew
+-- (`again`), and of the other what text owns goes to each callee beside the lifetime's token, which comes back. All that the
+-- proof knows of the callees is that they meet their contracts. Assumes nothing.
 use mathlib.Core.Path.{_≡_, refl, ap, _∙_}
 use Prim.Native.Nat.{ℕ, _<_, _^_}
 use mathlib.Core.List.{List, [], _∷_}
@@ -44,7 +47,7 @@ use denote.Triple.Entry.{Vals, onEntry}
 use denote.Triple.Spec.{Meets, tripleOf}
 use denote.Triple.Table.{entered, cited}
 use denote.Triple.Walked.{says, Stays, stay-ref, walkOf, goes-ref, Walks, ends-at, walked, walk-meets}
-use Rattle.reader.specs.Lines.{lineEnd, behind}
+use Rattle.reader.specs.Lines.{lineEnd, afterLine}
 use Rattle.reader.specs.declared.Reader.{Reader}
 use Rattle.reader.proofs.Reader as T
 use Rattle.reader.proofs.Reader.Laws as T′
@@ -133,8 +136,8 @@ module _ {M : Type 1} (𝓤 : URA M) (H : Heap 𝓤) (A : Atoms 𝓤) (W : Given
   end-said : (r : ℕ) → ent 𝓤 (ensured 𝓤 H A line-end.ended (line-end.clauses 𝓤 H A at-mem run) (κ′, tt) (h .text, (h .at, tt)) tt r) (fact 𝓤 (r ≡ lineEnd (now (h .text)) (h .at)))
   end-said r = exE 𝓤 _ (λ ws. snd∗ 𝓤 (sem 𝓤 H A (lasts line-end.ended (κ′, tt) (h .text, (h .at, tt)) ws)) (fact 𝓤 (r ≡ lineEnd (now (h .text)) (h .at))))
 
-  after-said : (n r : ℕ) → ent 𝓤 (ensured 𝓤 H A after-line.ended (after-line.clauses 𝓤 H A at-mem run) (κ′, tt) (h .text, (n, tt)) tt r) (fact 𝓤 (r ≡ behind (now (h .text)) n))
-  after-said n r = exE 𝓤 _ (λ ws. snd∗ 𝓤 (sem 𝓤 H A (lasts after-line.ended (κ′, tt) (h .text, (n, tt)) ws)) (fact 𝓤 (r ≡ behind (now (h .text)) n)))
+  after-said : (n r : ℕ) → ent 𝓤 (ensured 𝓤 H A after-line.ended (after-line.clauses 𝓤 H A at-mem run) (κ′, tt) (h .text, (n, tt)) tt r) (fact 𝓤 (r ≡ afterLine (now (h .text)) n))
+  after-said n r = exE 𝓤 _ (λ ws. snd∗ 𝓤 (sem 𝓤 H A (lasts after-line.ended (κ′, tt) (h .text, (n, tt)) ws)) (fact 𝓤 (r ≡ afterLine (now (h .text)) n)))
 
   -- what the struct owns gives what text owns, twice, and is kept
   apart : ent 𝓤 (sem 𝓤 H A Own) (sep 𝓤 (sem 𝓤 H A OwnText) (sep 𝓤 (sem 𝓤 H A OwnText) (sem 𝓤 H A Own)))
@@ -147,11 +150,11 @@ module _ {M : Type 1} (𝓤 : URA M) (H : Heap 𝓤) (A : Atoms 𝓤) (W : Given
   again : (m : ℕ) → m < 2 ^ 64 → ent 𝓤 (sem 𝓤 H A Own) (sem 𝓤 H A (B κ′ .own (to m) (T′.lowered (to m) ∷ [])))
   again m fits = qed W (‵ Own ∷ []) ∵ owned ! usize (Is usize) (uint-makes 𝓤 H A W w64) m _ (refl, fits) $ move ! (1 ∷ 0 ∷ []) $ by ! (own-put 𝓤 H A W D L 1 vh m (T′.lowered h))
 
-  exits : (r m : ℕ) → r < 2 ^ 64 → r ≡ lineEnd (now (h .text)) (h .at) → m ≡ behind (now (h .text)) r
+  exits : (r m : ℕ) → r < 2 ^ 64 → r ≡ lineEnd (now (h .text)) (h .at) → m ≡ afterLine (now (h .text)) r
       → ent 𝓤 (⋆ 𝓤 H A (‵ (fobs γ (B κ′ .coded .code (to m))) ∷ ‵ (fbor κ (Body (mem (B κ′)) b o γ)) ∷ ‵ (flft κ q) ∷ (‵ (flft κ′ q′) ⊛ ‵ ftrue) ∷ [])) (Post (vint w64 r))
   exits r m fits e e′ =
       qed W (‵ (fobs γ (B κ′ .coded .code (to m))) ∷ ‵ (fbor κ (Body (mem (B κ′)) b o γ)) ∷ ‵ (flft κ q) ∷ (‵ (flft κ′ q′) ⊛ ‵ ftrue) ∷ []) ∵
-      suffices ! _ (ends-at 𝓤 H A next.ended stayed (next.clauses 𝓤 H A at-mem run) W (((κ, (κ′, tt)), (q, (q′, tt)), bounds, x, at), tt) (vint w64 r) r (to m, tt) (tt, tt)) $ says ! (e, ap to (e′ ∙ ap (behind (now (h .text))) e)) $
+      suffices ! _ (ends-at 𝓤 H A next.ended stayed (next.clauses 𝓤 H A at-mem run) W (((κ, (κ′, tt)), (q, (q′, tt)), bounds, x, at), tt) (vint w64 r) r (to m, tt) (tt, tt)) $ says ! (e, ap to (e′ ∙ ap (afterLine (now (h .text))) e)) $
       move ! (2 ∷ 3 ∷ []) $ join ! $ frame ! $ feqI ! (List Val) (vptr b o ∷ []) (vptr b o ∷ []) refl $ fjoin3 ! $ nothing ! $ move ! (1 ∷ 0 ∷ []) $ fjoin ! $
       owned ! usize (Is usize) (uint-makes 𝓤 H A W w64) r _ (refl, fits) $ move ! (1 ∷ 0 ∷ []) $ done !
 
@@ -180,7 +183,7 @@ module _ {M : Type 1} (𝓤 : URA M) (H : Heap 𝓤) (A : Atoms 𝓤) (W : Given
         move ! (2 ∷ 0 ∷ []) $ use2 W (raw (AfterLine 𝓤 H A at-mem run .pre (to-after r))) (goes r (is .1)) $
         calls-at ! fm (AfterLine 𝓤 H A at-mem run) known-after (to-after r) (and-then ! (load ! (from ! (stop !)) (look ! 9 refl)) (and-then ! (load ! (from ! (stop !)) (look ! 11 refl)) (no-more !))) (λ u′.
         use1 W (later (some (λ (m : ℕ). ((‵ (flft κ′ q′) ⊛ ‵ ftrue) ⊛ ‵ (usize .own m (u′ ∷ []))) ⊛ raw (ensured 𝓤 H A after-line.ended (after-line.clauses 𝓤 H A at-mem run) (κ′, tt) (h .text, (r, tt)) tt m)))) (id⊢ 𝓤 _) $ await ! tt $ pick ! (λ m.
-        split ! $ move ! (1 ∷ []) $ use1 W (raw (fact 𝓤 (m ≡ behind (now (h .text)) r))) (after-said r m) $ heard ! (m ≡ behind (now (h .text)) r) (λ e′. split ! $ move ! (1 ∷ []) $
+        split ! $ move ! (1 ∷ []) $ use1 W (raw (fact 𝓤 (m ≡ afterLine (now (h .text)) r))) (after-said r m) $ heard ! (m ≡ afterLine (now (h .text)) r) (λ e′. split ! $ move ! (1 ∷ []) $
         peeks ! usize (Is usize) (shows 𝓤 H A usize) m (u′ ∷ []) (λ is′.
         land ! (from ! (stop !)) (store ! 8 refl (uint-lawful 𝓤 H A W w64 .typed m _ is′ .0)) $ rewrite ! 8 (λ (w : Val). ‵ (fat fullShare (tyInt w64) l₄ 0 w)) (ap only (is′ .0)) refl $ drop ! $
         -- [the token; what a Reader owns; the struct's cell; the open borrow; obs; auth; …; _4; …; _3; …; _2; …; _1; …; room for _0; …]

@@ -1,6 +1,6 @@
--- `reader::place` meets its contract: a walk of its MIR, by hand. A number is read from a field of the struct, and the struct is seen at exit as it was passed.
--- That the number fits its type is in the struct's relation, at the field's place.
--- Assumes nothing.
+-- `reader::place` meets its contract: a walk of its MIR, by hand. A number is read from a field of the struct, and the struct
+-- is seen at exit as it was passed.
+-- That the number fits its type is in the struct's relation, at the field's place. Assumes nothing.
 use mathlib.Core.Path.{refl}
 use Prim.Native.Nat.{_<_, _^_}
 use mathlib.Core.List.{[], _∷_}

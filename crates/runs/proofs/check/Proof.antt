@@ -1,6 +1,6 @@
 -- `runs::check` meets its contract: in each case the words are mixed in one after the other. Assumes nothing.
 use borrow.Author.Needs.{needs}
-use Rattle.runs.specs.Check.{mixed, words, checked}
+use Rattle.runs.specs.Check.{mixed, words, checkWith}
 use Rattle.runs.proofs.check.Statement.{statement}
 use Rattle.runs.proofs.check.Tie as tie
 
@@ -26,11 +26,11 @@ check-slot-requires : tie.Need-check-slot-requires
 check-slot-requires c κs = search needs
 
 returns : tie.Need-returns
-unfolding checked words mixed
+unfolding checkWith words mixed
 returns c = rw (c .before .enum-told .given .1) (c .mix .ensures)
 
 returns-2 : tie.Need-returns-2
-unfolding checked words mixed
+unfolding checkWith words mixed
 returns-2 c = cc (c .before .before .before .answer .given .1)
 
 returns-3 : tie.Need-returns-3

@@ -1,7 +1,7 @@
 -- `runs::check_slot` meets its contract: in each case the words are mixed in one after the other. Assumes nothing.
 use borrow.Author.Needs.{needs}
 use Rattle.definitions.specs.Answers.{values}
-use Rattle.runs.specs.Check.{mixed, words, checked}
+use Rattle.runs.specs.Check.{mixed, words, checkWith}
 use Rattle.runs.proofs.check_slot.Statement.{statement}
 use Rattle.runs.proofs.check_slot.Tie as tie
 
@@ -48,19 +48,19 @@ mix-requires-10 : tie.Need-mix-requires-10
 mix-requires-10 c κs = search needs
 
 returns : tie.Need-returns
-unfolding checked words mixed values
+unfolding checkWith words mixed values
 returns c = rw (c .before .before .before .before .before .before .outcome .given .1) (cc)
 
 returns-2 : tie.Need-returns-2
-unfolding checked words mixed values
+unfolding checkWith words mixed values
 returns-2 c = rw (c .before .before .before .outcome2 .given .1) (cc)
 
 returns-3 : tie.Need-returns-3
-unfolding checked words mixed values
+unfolding checkWith words mixed values
 returns-3 c = rw (c .before .before .before .outcome3 .given .1) (cc)
 
 returns-4 : tie.Need-returns-4
-unfolding checked words mixed values
+unfolding checkWith words mixed values
 returns-4 c = rw (c .before .enum-told .given .1) (cc)
 
 pub check-slot-spec : {M : Type 1} → statement M

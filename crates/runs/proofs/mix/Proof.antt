@@ -1,4 +1,4 @@
--- `runs::mix` meets its contract: the sum wraps as the page says, and one step follows. Assumes nothing.
+-- `runs::mix` meets its contract: the sum wraps as docs/LONG_RUNS.md says, and one step follows. Assumes nothing.
 use borrow.Author.Needs.{needs}
 use mathlib.Core.Path.{ap, _∙_}
 use Rattle.definitions.specs.Generator.{stepped}

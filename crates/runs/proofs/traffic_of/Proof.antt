@@ -1,4 +1,5 @@
--- `runs::traffic_of` meets its contract: at each return the tests that led there say which row of the table holds. Assumes nothing.
+-- `runs::traffic_of` meets its contract: at each return the tests that led there say which row of the table holds. Assumes
+-- nothing.
 use borrow.Author.Needs.{needs}
 use borrow.Author.Tests.{le-leb, lt-leb}
 use Rattle.runs.specs.Calls.{trafficAt}

@@ -2,7 +2,7 @@
 use native.Mathlib.Omega.{arith}
 use mathlib.Core.Path.{sym, ap, _∙_}
 use Rattle.grammar.specs.declared.Line.the-variants.{Refused as Unread}
-use Rattle.script.specs.Walk.{numberOf}
+use Rattle.script.specs.Walk.{unreadNumber}
 use Rattle.reader.specs.Lines.{LineEnd}
 use Rattle.reader.proofs.Ends.{span-end}
 use Rattle.script.proofs.Walks.{walk-open, walk-unread, walk-form}
@@ -15,7 +15,7 @@ use Rattle.parser.proofs.parse.Reads as parse-reads
 use Rattle.printer.proofs.print.Reads as print-reads
 use Rattle.reader.proofs.line_at.Reads as line-at-reads
 use Rattle.script.proofs.perform.Reads as perform-reads
-use Rattle.script.proofs.refusal.Reads as refusal-reads
+use Rattle.script.proofs.unread_number.Reads as unread-number-reads
 
 -- what holds where the line ends
 ends : (c : tie.After-line-at) → let start = c .before .before .before .args in LineEnd (start .text .now) (start .at) (c .line-at .result .end)
@@ -55,8 +55,8 @@ enum-known-read c = search needs
 enum-told : tie.Need-enum-told
 enum-told c = search needs
 
-refusal-requires : tie.Need-refusal-requires
-refusal-requires c κs = search needs
+unread-number-requires : tie.Need-unread-number-requires
+unread-number-requires c κs = search needs
 
 print-requires-2 : tie.Need-print-requires-2
 print-requires-2 c κs = search needs
@@ -72,7 +72,7 @@ returns-2 c =
     let more = c .before .before .before .before .before .before .before .before .before .if1 .left in
     let none = c .before .before .before .before .before .enum-told .given .1 in
     walk-unread _ _ _ _ _ _ (start .pre .0) (start .pre .1) _ (found .line-at .ensures) (omega (arith, within)) _ _ _
-    (sym (c .before .before .before .before .before .before .before .parse .ensures) ∙ none ∙ ap Unread (sym (c .before .before .before .before .refusal .ensures ∙ ap numberOf none)))
+    (sym (c .before .before .before .before .before .before .before .parse .ensures) ∙ none ∙ ap Unread (sym (c .before .before .before .before .unread-number .ensures ∙ ap unreadNumber none)))
     (c .before .before .print2 .ensures)
 
 perform-requires : tie.Need-perform-requires
@@ -108,7 +108,7 @@ line-spec =
     parse-requires
     enum-known-read
     enum-told
-    refusal-requires
+    unread-number-requires
     print-requires-2
     same-length-2
     returns-2

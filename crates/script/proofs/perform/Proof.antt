@@ -1,3 +1,4 @@
+-- `script::perform` meets its contract: each arm is the call of its name. Assumes nothing.
 use borrow.Author.Needs.{needs}
 use Rattle.script.proofs.perform.Statement.{statement}
 use Rattle.script.proofs.perform.Tie as tie

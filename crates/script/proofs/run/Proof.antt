@@ -1,6 +1,8 @@
 -- `script::run` meets its contract: it prints what a run gives. Assumes nothing.
 use native.Mathlib.Omega.{arith}
 use mathlib.Core.Path.{_∙_}
+use Rattle.grammar.specs.Bytes.{textLimit}
+use Rattle.script.specs.Walk.{outRoom}
 use Rattle.script.proofs.Wholes.{given-bare, given-long, given-lines, begin}
 use borrow.Author.Needs.{needs}
 use Rattle.script.proofs.run.Statement.{statement}
@@ -11,36 +13,32 @@ use Rattle.opening.proofs.unopened.Reads as unopened-reads
 use Rattle.printer.proofs.print.Reads as print-reads
 use Rattle.script.proofs.lines.Reads as lines-reads
 
--- src/lib.rt:236:9
 returns : tie.Need-returns
+unfolding outRoom textLimit
 returns c = let start = c .before .before .before .args in given-bare (start .text .now) (start .out .now) (omega arith)
 
--- src/lib.rt:239:9
 print-requires : tie.Need-print-requires
 print-requires c κs = search needs
 
--- src/lib.rt:239:9
 same-length : tie.Need-same-length
 same-length c = search needs
 
--- src/lib.rt:239:9
 returns-2 : tie.Need-returns-2
+unfolding outRoom textLimit
 returns-2 c = given-long _ _ (omega arith) _ _ (omega arith) (c .before .before .print .ensures)
 
--- src/lib.rt:245:9
 unopened-requires : tie.Need-unopened-requires
 unopened-requires c κs = search needs
 
--- src/lib.rt:246:5
 lines-requires : tie.Need-lines-requires
+unfolding outRoom textLimit
 lines-requires c κs = begin _ _ (omega arith) (omega arith) _ _ (c .before .before .before .before .before .unopened .ensures _)
 
--- src/lib.rt:232:1
 same-length-2 : tie.Need-same-length-2
 same-length-2 c = search needs
 
--- src/lib.rt:232:1
 returns-3 : tie.Need-returns-3
+unfolding outRoom textLimit
 returns-3 c =
     let start = c .before .before .before .before .before .before .before .before .before .before .before .before .before .args in
     let done = c .before .before .lines .ensures in

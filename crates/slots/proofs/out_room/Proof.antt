@@ -1,5 +1,5 @@
 -- `slots::out_room` meets its contract: it gives as many bytes as it says. Assumes nothing.
-use mathlib.Core.Path.{refl}
+use Rattle.script.proofs.Wholes.{out-room}
 use Rattle.slots.proofs.Rooms.{room-repeat}
 use Rattle.slots.proofs.out_room.Statement.{statement}
 use Rattle.slots.proofs.out_room.Tie as tie
@@ -7,7 +7,7 @@ use Rattle.slots.proofs.out_room.Reads as reads
 use Rattle.slots.proofs.out_room.Lts as lts
 
 returns : tie.Need-returns
-returns c = room-repeat 780064 0 refl
+returns c = room-repeat _ 0 out-room
 
 pub out-room-spec : {M : Type 1} → statement M
 out-room-spec = tie.close (tie.spec returns)
