@@ -1,6 +1,6 @@
 -- Whose slot it is, read off the marks: a word with the marks of those in a draw has the definitions' weights, and the place
 -- accepted earliest is of the id accepted earliest. Assumes nothing.
-use Prim.Native.Nat.{ℕ, zero, suc, _/_, _≤_, _<_}
+use Prim.Native.Nat.{ℕ, zero, suc, _+_, _/_, _≤_, _<_}
 use mathlib.Core.Path.{_≡_, refl, sym, ap, subst, _∙_}
 use mathlib.Core.Logic.{_≢_}
 use mathlib.Core.Bool.{Bool, true, false, cond, _&&_, and-comm}
@@ -10,12 +10,13 @@ use lib.Dec.{eqb}
 use borrow.Author.Tests.{eq-eqb, ne-eqb}
 use Rattle.definitions.specs.Sizes.{ids, places, firstCome}
 use Rattle.definitions.specs.Draw.{sumBelow, targetOf, draw}
-use Rattle.definitions.specs.Client.{Kind, indifferent, private, isPrivate, Client, empty}
+use Rattle.definitions.specs.Client.{Kind, absent, indifferent, private, isActive, isIndifferent, isPrivate, Client, empty}
 use Rattle.definitions.specs.State.{State, earliest}
 use Rattle.definitions.specs.Tick.{anyBelow, contends, ruleOf, contenderRate, privateRate, firstTurn, turnBy, turn}
 use Rattle.definitions.specs.Limits.{LimitsBy, standing, ordered}
-use Rattle.definitions.proofs.Laws.Clients.{private-kind}
-use Rattle.definitions.proofs.Laws.Sums.{sumBelow-same, sumBelow-part, anyBelow-true}
+use Rattle.definitions.specs.Checks.{activeRate, rates}
+use Rattle.definitions.proofs.Laws.Clients.{indifferent-kind, private-kind}
+use Rattle.definitions.proofs.Laws.Sums.{sumBelow-same, sumBelow-plus, sumBelow-part, anyBelow-true}
 use Rattle.definitions.proofs.Limits.Turns.{contends-contender}
 use Rattle.marks.specs.Marks.{marked}
 use Rattle.marks.proofs.Search.{anyBelow-cong}
@@ -32,7 +33,7 @@ use Rattle.tables.specs.Invariant.{Shape, Sound-core}
 use Rattle.tables.proofs.Marking.{kind-indifferent, kind-private}
 use Rattle.tables.proofs.Touch.{waits-here, client-own}
 use Rattle.slot.specs.declared.Choice.{Choice}
-use Rattle.slot.specs.Turns.{Chosen, Drawn-among}
+use Rattle.slot.specs.Turns.{Chosen, Drawn-among, Held-by-both}
 use Rattle.slot.proofs.Filling.{rate-first}
 
 -- a queue is empty exactly where its count is 0
@@ -111,6 +112,29 @@ module _ (c : Control) (t : Tables) (core : Sound-core c t) where
           weight-agrees (found .0) (found .1) ∙ ap (λ (b : Bool). cond b (clients (found .0) .rate) 0) (found .2),
           rated (found .0) (found .2),
         )
+
+  indifferent-marks : (id : ℕ) → id < ids → marked (c .indifferent) id ≡ isIndifferent (clients id .kind)
+  unfolding clientAt
+  indifferent-marks id below = rw (client-own c t (core .shape) id below) (sym (kind-indifferent c id))
+
+  indifferent-rated : (id : ℕ) → isIndifferent (clients id .kind) ≡ true → 1 ≤ clients id .rate
+  indifferent-rated id e = limited id indifferent (indifferent-kind (clients id .kind) e) .active .rateLow
+
+  -- an active client is of one type, and the control has the rates of all
+  pub held-by-both : Held-by-both c (t .clients)
+  unfolding rates activeRate
+  held-by-both =
+      core .shape .ratesHeld
+      ∙ sumBelow-plus ids (weightAt (c .private) (t .clients)) (weightAt (c .indifferent) (t .clients)) (activeRate clients)
+      (λ id below. rw (
+        weight-agrees (c .private) (λ x. isPrivate (x .kind)) private-marks private-rated id below,
+        weight-agrees (c .indifferent) (λ x. isIndifferent (x .kind)) indifferent-marks indifferent-rated id below,
+      ) (by-type (clients id .kind) (clients id .rate)))
+    where
+      by-type : (k : Kind) (rate : ℕ) → cond (isActive k) rate 0 ≡ cond (isPrivate k) rate 0 + cond (isIndifferent k) rate 0
+      by-type absent rate = refl
+      by-type indifferent rate = omega arith
+      by-type private rate = omega arith
 
   -- ---- rule 1
 

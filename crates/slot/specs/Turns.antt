@@ -1,9 +1,10 @@
 -- Whose slot it is, as the code says it: the rule by its number in the paper.
 -- "A slot goes by the first of the tick's rules 1 to 3 that applies" (paper 01).
-use Prim.Native.Nat.{ℕ}
+use Prim.Native.Nat.{ℕ, _+_}
 use mathlib.Core.Path.{_≡_}
 use mathlib.Core.List.{List}
-use Rattle.definitions.specs.Draw.{draw}
+use Rattle.definitions.specs.Sizes.{ids}
+use Rattle.definitions.specs.Draw.{sumBelow, draw}
 use Rattle.definitions.specs.Tick.{Rule, rule1, rule2, rule3, Turn}
 use Rattle.draw.specs.Weights.{weightAt}
 use Rattle.tables.specs.declared.Control.{Control}
@@ -27,6 +28,11 @@ pub record Drawn-among (by word value : ℕ) (clients : List ℕ) (r : Choice) :
   pub rule : r .rule ≡ by
   pub id : r .id ≡ draw value (weightAt word clients) .id
   pub generator : r .generator .value ≡ draw value (weightAt word clients) .generator
+
+-- the rates held are those of the private clients and those of the indifferent
+abbrev pub Held-by-both : Control → List ℕ → Type 0
+Held-by-both c clients =
+    c .rates ≡ sumBelow ids (weightAt (c .private) clients) + sumBelow ids (weightAt (c .indifferent) clients)
 
 -- the core is sound, whatever packets lie in the places: a choice does not look at them
 abbrev pub Sound-with : Control → List ℕ → List ℕ → Type 0

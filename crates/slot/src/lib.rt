@@ -33,7 +33,7 @@ ghost use Rattle.tables.specs.Tables.{tables, headAt, countAt};
 ghost use Rattle.tables.specs.Meaning.{packetAt, stateOf};
 ghost use Rattle.tables.specs.Invariant.{Sound-core, Valid};
 ghost use Rattle.tables.specs.Promise.{Meets};
-ghost use Rattle.slot.specs.Turns.{Chosen, Drawn-among, Sound-with};
+ghost use Rattle.slot.specs.Turns.{Chosen, Drawn-among, Held-by-both, Sound-with};
 ghost use Rattle.slot.specs.Sends.{Settled, popped, Unlinked, Sender, Spent};
 ghost use Rattle.slot.specs.Slots.{Due, Done};
 ghost use Rattle.slot.specs.Buckets.{Refillable, Refilled};
@@ -62,13 +62,29 @@ struct Choice {
     generator: Generator,
 }
 
-// A draw among the marked ids, by their rates. It steps the generator once.
-fn draw_among(rule: u32, word: u64, clients: &[u32; CLIENTS], generator: Generator) -> Choice
-    requires { ⌜ 0 < sumBelow ids (weightAt word (now clients)) ⌝ }
+// The rates of all private clients together. The control has those of all clients, so the type with fewer marks is summed up.
+fn private_total(control: Control, clients: &[u32; CLIENTS]) -> u64
+    requires { ⌜ Held-by-both control (now clients) ⌝ }
+    ensures { λ r. ⌜ r ≡ sumBelow ids (weightAt (control .private) (now (clients .entry))) ⌝ }
+{
+    if u64::count_ones(control.private) < u64::count_ones(control.indifferent) {
+        return draw::total(control.private, clients);
+    }
+    tables::wide(control.rates) - draw::total(control.indifferent, clients)
+}
+
+// A draw among the marked ids, by their rates, whose sum is the total. It steps the generator once.
+fn draw_among(
+    rule: u32,
+    word: u64,
+    total: u64,
+    clients: &[u32; CLIENTS],
+    generator: Generator,
+) -> Choice
+    requires { ⌜ (0 < total) × (total ≡ sumBelow ids (weightAt word (now clients))) ⌝ }
     ensures { λ r. ⌜ Drawn-among rule word (generator .value) (now (clients .entry)) r ⌝ }
 {
     let next = generator.step();
-    let total = draw::total(word, clients);
     let target = tables::wide(next.value) % total;
     let id = draw::pick(word, clients, target as u32);
     Choice {
@@ -89,7 +105,8 @@ fn turn(control: Control, clients: &[u32; CLIENTS], links: &[u32; LINKS]) -> Cho
     let contenders = marks::both(control.waiting, control.indifferent);
     if marks::any(contenders) {
         if control.discipline != FIRST_COME {
-            return draw_among(INDIFFERENT_FIRST, contenders, clients, generator);
+            let total = draw::total(contenders, clients);
+            return draw_among(INDIFFERENT_FIRST, contenders, total, clients, generator);
         }
         return Choice {
             rule: INDIFFERENT_FIRST,
@@ -98,7 +115,8 @@ fn turn(control: Control, clients: &[u32; CLIENTS], links: &[u32; LINKS]) -> Cho
         };
     }
     if marks::any(control.private) {
-        return draw_among(PRIVATE_DRAW, control.private, clients, generator);
+        let total = private_total(control, clients);
+        return draw_among(PRIVATE_DRAW, control.private, total, clients, generator);
     }
     Choice {
         rule: NOBODY,

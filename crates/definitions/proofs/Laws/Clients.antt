@@ -106,6 +106,11 @@ kindOf-private type =
     go true = refl
     go false = refl
 
+pub indifferent-kind : (k : Kind) → isIndifferent k ≡ true → k ≡ indifferent
+indifferent-kind absent e = true-false e refl
+indifferent-kind indifferent e = refl
+indifferent-kind private e = true-false e refl
+
 pub private-kind : (k : Kind) → isPrivate k ≡ true → k ≡ private
 private-kind absent e = true-false e refl
 private-kind indifferent e = true-false e refl

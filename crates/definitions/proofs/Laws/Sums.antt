@@ -23,6 +23,16 @@ sumBelow-zero (suc n) f none =
     let below : sumBelow n f ≡ 0 = sumBelow-zero n f (λ i h. none i (omega arith)) in
     omega arith
 
+-- a sum of sums
+pub sumBelow-plus : (n : ℕ) (f g h : ℕ → ℕ) → ((i : ℕ) → i < n → h i ≡ f i + g i)
+    → sumBelow n h ≡ sumBelow n f + sumBelow n g
+unfolding sumBelow
+sumBelow-plus zero f g h both = refl
+sumBelow-plus (suc n) f g h both =
+    let here : h n ≡ f n + g n = both n (omega arith) in
+    let below : sumBelow n h ≡ sumBelow n f + sumBelow n g = sumBelow-plus n f g h (λ i l. both i (omega arith)) in
+    omega arith
+
 -- each of the summed is at most the sum
 pub sumBelow-part : (n i : ℕ) (f : ℕ → ℕ) → i < n → f i ≤ sumBelow n f
 unfolding sumBelow

@@ -1,9 +1,10 @@
 -- `slot::turn` meets its contract: each way through it is the rule of the definitions whose test the marks have passed.
 -- Assumes nothing.
-use borrow.Author.Needs.{needs}
+use native.Mathlib.Omega.{arith}
 use mathlib.Core.Path.{refl, sym, _∙_}
-use Rattle.slot.proofs.Choosing.{contenders-total, chosen-contender, chosen-earliest}
+use Rattle.slot.proofs.Choosing.{held-by-both, contenders-total, chosen-contender, chosen-earliest}
 use Rattle.slot.proofs.Choosing.{private-total, chosen-private, chosen-nobody}
+use borrow.Author.Needs.{needs}
 use Rattle.slot.proofs.turn.Statement.{statement}
 use Rattle.slot.proofs.turn.Tie as tie
 
@@ -13,19 +14,24 @@ both-requires c κs = search needs
 any-requires : tie.Need-any-requires
 any-requires c κs = search needs
 
+total-requires : tie.Need-total-requires
+total-requires c κs = search needs
+
 draw-among-requires : tie.Need-draw-among-requires
 draw-among-requires c κs =
-    let tested = c .before .before in
+    let tested = c .before .before .before in
     let both = tested .before .before in
+    let positive =
     contenders-total _ _ (both .before .before .pre .2) (both .both .result) (both .both .ensures)
-    (sym (tested .before .any .ensures) ∙ tested .if1 .taken)
+    (sym (tested .before .any .ensures) ∙ tested .if1 .taken) in
+    (omega (arith, positive, c .total .ensures), c .total .ensures)
 
 returns : tie.Need-returns
 returns c h l core =
-    let tested = c .before .before .before in
+    let tested = c .before .before .before .before in
     let both = tested .before .before in
     chosen-contender _ _ core (both .both .result) (both .both .ensures)
-    (sym (tested .before .any .ensures) ∙ tested .if1 .taken) (c .before .if2 .taken) (c .draw-among .result)
+    (sym (tested .before .any .ensures) ∙ tested .if1 .taken) (c .before .before .if2 .taken) (c .draw-among .result)
     (c .draw-among .ensures)
 
 front-requires : tie.Need-front-requires
@@ -42,20 +48,26 @@ returns-2 c h l core =
 any-requires-2 : tie.Need-any-requires-2
 any-requires-2 c κs = search needs
 
+private-total-requires : tie.Need-private-total-requires
+private-total-requires c κs = held-by-both _ _ (c .before .before .before .before .before .before .pre .2)
+
 draw-among-requires-2 : tie.Need-draw-among-requires-2
 draw-among-requires-2 c κs =
-    let tested = c .before .before in
+    let tested = c .before .before .before in
     let both = tested .before .before in
+    let positive =
     private-total _ _ (both .before .before .pre .2) (both .both .result) (both .both .ensures)
-    (sym (tested .before .any .ensures) ∙ tested .if1 .left) (sym (c .before .any2 .ensures) ∙ c .if3 .taken)
+    (sym (tested .before .any .ensures) ∙ tested .if1 .left) (sym (c .before .before .any2 .ensures) ∙ c .before .if3 .taken) in
+    (omega (arith, positive, c .private-total .ensures), c .private-total .ensures)
 
 returns-3 : tie.Need-returns-3
 returns-3 c h l core =
-    let tested = c .before .before .before in
+    let tested = c .before .before .before .before in
     let both = tested .before .before in
     chosen-private _ _ core (both .both .result) (both .both .ensures)
-    (sym (tested .before .any .ensures) ∙ tested .if1 .left) (sym (c .before .before .any2 .ensures) ∙ c .before .if3 .taken)
-    (c .draw-among2 .result) (c .draw-among2 .ensures)
+    (sym (tested .before .any .ensures) ∙ tested .if1 .left)
+    (sym (c .before .before .before .any2 .ensures) ∙ c .before .before .if3 .taken) (c .draw-among2 .result)
+    (c .draw-among2 .ensures)
 
 returns-4 : tie.Need-returns-4
 returns-4 c h l core =
@@ -70,11 +82,13 @@ turn-spec =
     (tie.spec
     both-requires
     any-requires
+    total-requires
     draw-among-requires
     returns
     front-requires
     returns-2
     any-requires-2
+    private-total-requires
     draw-among-requires-2
     returns-3
     returns-4)
