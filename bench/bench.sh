@@ -42,8 +42,17 @@ find_proved() {
     proved=(target/staticlib/libbench.a "${also[@]}")
 }
 
+# The plain core and its script program are held to the second program, on scripts (tests/README.md).
+check_plain() {
+    local rust="rustc -O --edition 2021" second=$out/libsecond.rlib
+    gcc $flags "$here"/{plain_slots,plain}.c -o "$out/plain_slots"
+    $rust --crate-type lib --crate-name second second/src/lib.rs -o "$second"
+    $rust --crate-type lib --crate-name tests tests/src/lib.rs --extern second="$second" -o "$out/libtests.rlib"
+    $rust tests/src/compare.rs -L "$out" --extern second="$second" --extern tests="$out/libtests.rlib" -o "$out/compare"
+    "$out/compare" "$out/plain_slots" 1 2000 | tail -n 1 >&2
+}
+
 build() {
-    gcc $flags "$here"/{plain,model,selfcheck}.c -o "$out/selfcheck"
     gcc $flags $lto -c "$here/plain.c" -o "$out/plain.o"
     gcc $flags $lto -c "$here/sequence.c" -o "$out/sequence.o"
     gcc $flags -c "$here/harness.c" -o "$out/harness.o"
@@ -110,36 +119,34 @@ script() {
     esac | head -c 60000
 }
 
-# program_instructions PROGRAM SCRIPT. memset is told to go by stores, since callgrind counts each byte of a `rep stosb`.
+# program_instructions PROGRAM SCRIPT TUNABLES: those of the whole process
 program_instructions() {
-    GLIBC_TUNABLES=glibc.cpu.x86_rep_stosb_threshold=100000000 \
-        valgrind --tool=callgrind --callgrind-out-file="$temporary/callgrind" "$1" <"$2" >/dev/null 2>"$temporary/valgrind"
+    GLIBC_TUNABLES=$3 valgrind --tool=callgrind --callgrind-out-file="$temporary/callgrind" "$1" <"$2" >/dev/null 2>"$temporary/valgrind"
     awk '$1 == "totals:" { print $2 }' "$temporary/callgrind"
 }
 
 scripts() {
     rt check slots >"$temporary/check" 2>&1 || { cat "$temporary/check" >&2; exit 1; }
-    gcc $flags "$here"/{plain_slots,plain}.c -o "$out/plain_slots"
     gcc $flags "$here/programs.c" -o "$out/programs"
-    echo "| 60,000 bytes of | slots µs | plain µs | ratio | slots instructions | plain instructions | ratio |"
-    echo "|---|---:|---:|---:|---:|---:|---:|"
-    local name text=$temporary/script
+    echo "| 60,000 bytes of | slots µs | plain µs | ratio | slots instructions | plain | ratio | memset by stores: slots | plain | ratio |"
+    echo "|---|---:|---:|---:|---:|---:|---:|---:|---:|---:|"
+    local name text=$temporary/script plain=$out/plain_slots by_stores=glibc.cpu.x86_rep_stosb_threshold=100000000
     for name in calls ticks "line feeds"; do
         script "$name" >"$text" || true # head stops reading before the end
         target/bin/slots <"$text" >"$temporary/proved"
-        "$out/plain_slots" <"$text" >"$temporary/plain"
+        "$plain" <"$text" >"$temporary/plain"
         cmp "$temporary/proved" "$temporary/plain"
-        echo "$name|$("$out/programs" target/bin/slots "$out/plain_slots" "$text" 500)|$(
-            program_instructions target/bin/slots "$text")|$(program_instructions "$out/plain_slots" "$text")"
-    done | awk -F '[| ]' '{ n = NF
-        name = $1; for (i = 2; i <= n - 6; i++) name = name " " $i
-        printf "| %s | %d | %d | %.2f | %d | %d | %.2f |\n", name, $(n - 5), $(n - 3), $(n - 5) / $(n - 3), $(n - 1), $n, $(n - 1) / $n }'
+        echo "$name|$("$out/programs" target/bin/slots "$plain" "$text" 500 | tr ' ' '|')|$(
+            program_instructions target/bin/slots "$text" "")|$(program_instructions "$plain" "$text" "")|$(
+            program_instructions target/bin/slots "$text" $by_stores)|$(program_instructions "$plain" "$text" $by_stores)"
+    done | awk -F '|' '{ printf "| %s | %d | %d | %.2f | %d | %d | %.2f | %d | %d | %.2f |\n",
+        $1, $2, $4, $2 / $4, $6, $7, $6 / $7, $8, $9, $8 / $9 }'
 }
 
+check_plain
 if [ -z "$only_scripts" ]; then
     find_proved
     build
-    "$out/selfcheck" >&2
     "$out/harness" time >"$out/time.md" # stops here if the sums differ
     echo "Time:"; echo; cat "$out/time.md"; echo
     echo "Instructions:"; echo; count_all | tee "$out/instructions.md"; echo
