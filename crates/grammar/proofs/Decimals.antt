@@ -2,9 +2,9 @@
 -- By induction on the fuel of `digits`: all but the last digit spell the tenth part, and the last is the remainder.
 -- A number has more fuel than it needs: more gives the same digits. Assumes nothing.
 use Prim.Native.Nat.{ℕ, zero, suc, _+_, _-_, _*_, _/_, _%_, _^_, _≤_, _<_}
-use mathlib.Core.Path.{_≡_, refl}
+use mathlib.Core.Path.{_≡_, refl, ap}
 use mathlib.Core.Bool.{Bool, true, false}
-use mathlib.Core.List.{List, [], _∷_, _++_}
+use mathlib.Core.List.{List, [], _∷_, _++_, append-assoc}
 use native.Mathlib.Omega.{arith}
 use native.Mathlib.Nat.{pow-suc, div-lt-iff-lt-mul}
 use borrow.Author.Tests.{ltb-true, ltb-false, lt-ltb, le-ltb, le-leb, ne-eqb}
@@ -135,17 +135,21 @@ pub decimal-high : (n : ℕ) → 10 ≤ n → decimal n ≡ decimal (n / 10) ++ 
 unfolding decimal
 decimal-high n high = rw (digits-high n n high, enough n (suc (n / 10)) (n / 10) (omega arith) (omega arith))
 
--- a number of two digits
-pub decimal-two : (n : ℕ) → 10 ≤ n → n < 100 → decimal n ≡ (48 + n / 10) ∷ (48 + n % 10) ∷ []
-decimal-two n high low = rw (decimal-high n high, decimal-low (n / 10) (omega arith))
+-- two digits at a time: a number below a hundred, and the last two of any other behind those of n / 100
+pub decimal-two : (n : ℕ) → 10 ≤ n → n < 100 → decimal n ≡ (48 + n / 10 % 10) ∷ (48 + n % 10) ∷ []
+decimal-two n high low =
+    rw (decimal-high n high, decimal-low (n / 10) (omega arith))
+    (ap (λ (tens : ℕ). (48 + tens) ∷ (48 + n % 10) ∷ []) (omega arith))
+
+pub decimal-hundreds : (n : ℕ) → 100 ≤ n → decimal n ≡ decimal (n / 100) ++ ((48 + n / 10 % 10) ∷ (48 + n % 10) ∷ [])
+decimal-hundreds n high =
+    let parts : n / 10 / 10 ≡ n / 100 = omega arith in
+    rw (decimal-high n (omega arith), decimal-high (n / 10) (omega arith), parts) (append-assoc (decimal (n / 100)) _ _)
 
 pub decimal-some : (n : ℕ) → 1 ≤ length (decimal n)
 decimal-some n =
     lt-cases n 10 (λ low. rw (decimal-low n low) (omega arith))
     (λ high. rw (decimal-high n high) (simp length-append (omega arith)))
-
-pub decimal-longer : (n : ℕ) → 10 ≤ n → length (decimal n) ≡ length (decimal (n / 10)) + 1
-decimal-longer n high = rw (decimal-high n high) (length-append (decimal (n / 10)) _)
 
 -- a number below 10 ^ (k + 1) has at most k + 1 digits
 pub decimal-length : (k n : ℕ) → n < 10 ^ suc k → length (decimal n) ≤ suc k

@@ -32,6 +32,10 @@ module _ {text before : List ℕ} {at : ℕ} {after : List ℕ} {end : ℕ} (a :
       (take-at (take at before ++ text) _ end
       (length-append (take at before) text ∙ rw (length-take-le at before low) (sym (a .place))))
 
+  -- what is to follow has room behind it
+  pub appended-room : (more : List ℕ) → at + length (text ++ more) ≤ length before → end + length more ≤ length after
+  appended-room more room = omega (arith, length-append text more, a .place, appended-length, room)
+
   -- a second text goes on where the first one ended
   pub appended-more : {more last : List ℕ} {stop : ℕ} → Appended more after end last stop
       → Appended (text ++ more) before at last stop
@@ -40,6 +44,11 @@ module _ {text before : List ℕ} {at : ℕ} {after : List ℕ} {end : ℕ} (a :
     room = omega (arith, appended-length, b .room);
     bytes = b .bytes ∙ rw (a .bytes, a .place) (sym (sets-append text more before at));
   }
+
+-- where two texts have room, the first has it
+pub front-room : (text more before : List ℕ) (at : ℕ) → at + length (text ++ more) ≤ length before
+    → at + length text ≤ length before
+front-room text more before at room = omega (arith, length-append text more, room)
 
 pub appended-as : {other text before : List ℕ} {at : ℕ} {after : List ℕ} {end : ℕ} → other ≡ text
     → Appended text before at after end → Appended other before at after end

@@ -1,47 +1,20 @@
--- Laws of a template: what its next byte writes, and how long it is when it is filled.
--- A gap writes the digits of the next number and any other byte itself, and 32 bits have at most ten digits. Assumes nothing.
+-- How long a template is when it is filled, and so the line of a slot: 32 bits have at most ten digits. Assumes nothing.
 use Prim.Native.Nat.{ℕ, suc, _+_, _*_, _^_, _≤_, _<_}
-use native.Mathlib.Numerals.{add-one}
 use native.Mathlib.Omega.{arith}
-use mathlib.Core.Path.{_≡_, refl}
 use mathlib.Core.Bool.{true, false}
 use mathlib.Core.List.{List, [], _∷_, _++_}
-use lib.ListN.{length, getD, drop, length-append, drop-of-length-le}
-use lib.Seq.{drop-cons}
-use borrow.Author.Tests.{eq-eqb, ne-eqb}
+use lib.ListN.{length, length-append}
+use Rattle.definitions.specs.declared.Outcome.{Outcome}
+use Rattle.definitions.specs.declared.Outcome.the-variants.{Real, Dummy, Idle, None}
+use Rattle.definitions.specs.declared.Answer.the-variants.{Slot}
+use Rattle.definitions.specs.Answers.{values}
 use Rattle.definitions.proofs.Laws.Tests.{eqb-cases}
 use Rattle.grammar.specs.Numerals.{decimal}
 use Rattle.grammar.specs.Templates.{gap, filled}
+use Rattle.grammar.specs.Printout.{printed}
 use Rattle.grammar.proofs.Decimals.{decimal-length}
-use Rattle.grammar.proofs.Filling.{filled-byte, filled-gap}
 use Rattle.printer.specs.Appended.{Appended}
 use Rattle.printer.specs.Printed.{lineRoom}
-
--- every byte is written as it is where no number is left
-at-spent : (b : ℕ) (bs : List ℕ) → filled (b ∷ bs) [] ≡ b ∷ filled bs []
-unfolding filled
-at-spent b bs = refl
-
-pub filled-none : (ns : List ℕ) → filled [] ns ≡ []
-unfolding filled
-filled-none ns = refl
-
--- the same of the bytes from i on and the numbers from k on
-module _ (template numbers : List ℕ) (i k : ℕ) (more : i < length template) where
-  pub next-gap : k < length numbers → getD template i 0 ≡ gap
-      → filled (drop i template) (drop k numbers)
-      ≡ decimal (getD numbers k 0) ++ filled (drop (i + 1) template) (drop (k + 1) numbers)
-  next-gap left e = rw (add-one i, add-one k, drop-cons template i 0 more, drop-cons numbers k 0 left) (filled-gap _ _ _ _ (eq-eqb _ gap e))
-
-  pub next-byte : (getD template i 0 ≡ gap → ⊥)
-      → filled (drop i template) (drop k numbers)
-      ≡ (getD template i 0 ∷ []) ++ filled (drop (i + 1) template) (drop k numbers)
-  next-byte ne = rw (add-one, drop-cons template i 0 more) (filled-byte _ _ _ (ne-eqb _ gap ne))
-
-  pub next-spent : length numbers ≤ k
-      → filled (drop i template) (drop k numbers)
-      ≡ (getD template i 0 ∷ []) ++ filled (drop (i + 1) template) (drop k numbers)
-  next-spent none = rw (add-one, drop-cons template i 0 more, drop-of-length-le numbers none) (at-spent _ _)
 
 -- numbers of 32 bits have at most ten digits
 abbrev pub Small : List ℕ → Type 0
@@ -69,3 +42,16 @@ module _ (template numbers : List ℕ) (small : Small numbers) (short : length t
   pub filled-end : {before : List ℕ} {at : ℕ} {after : List ℕ} {end : ℕ}
       → Appended (filled template numbers) before at after end → end ≤ at + lineRoom
   filled-end a = omega (arith, filled-length template numbers small, a .place)
+
+-- so has the line of a slot
+pub slot-room : (outcome : Outcome) → Small (values outcome) → (at : ℕ) {size : ℕ} → at + lineRoom ≤ size
+    → at + length (printed (Slot outcome)) ≤ size
+unfolding printed values
+slot-room (Real id packet padding) small at room = filled-room _ _ small (omega arith) at room
+slot-room (Dummy id) small at room = filled-room _ _ small (omega arith) at room
+slot-room (Idle id) small at room = filled-room _ _ small (omega arith) at room
+slot-room None small at room = filled-room _ _ small (omega arith) at room
+
+pub slot-end : (outcome : Outcome) → Small (values outcome) → {before : List ℕ} {at : ℕ} {after : List ℕ} {end : ℕ}
+    → Appended (printed (Slot outcome)) before at after end → end ≤ at + lineRoom
+slot-end outcome small {at = at} a = omega (arith, slot-room outcome small at {size = at + lineRoom} (omega arith), a .place)

@@ -1,2 +1,3 @@
 pub mod Appending
 pub mod Filling
+pub mod Rooms

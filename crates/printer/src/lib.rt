@@ -1,10 +1,13 @@
 // Prints answers (paper 01, "Script and printout"): each as a line of text, into bytes that are lent, from a place on.
 use definitions::Answer;
 use definitions::Outcome;
-ghost use Prim.Native.Nat.{_+_, _≤_};
+use definitions::Packet;
+ghost use Prim.Native.Nat.{_+_, _/_, _%_, _≤_, _<_};
+ghost use mathlib.Core.Path.{_≡_};
+ghost use mathlib.Core.List.{[], _∷_, _++_};
+ghost use lib.Dec.{leb};
 ghost use lib.ListN.{length};
 ghost use Rattle.grammar.specs.Numerals.{decimal};
-ghost use Rattle.grammar.specs.Templates.{filled};
 ghost use Rattle.grammar.specs.Printout.{printed};
 ghost use Rattle.printer.specs.Appended.{Appended};
 ghost use Rattle.printer.specs.Printed.{lineRoom, Printed};
@@ -12,57 +15,102 @@ ghost use Rattle.printer.specs.Printed.{lineRoom, Printed};
 // The room that a line is given. No line of numbers of 32 bits is longer.
 const LINE_ROOM: usize = 64;
 
-// Stands in a template for a number.
-const GAP: u8 = b'#';
-
 const ZERO: u32 = 48;
 
-// Writes the digits of n, the last one behind those of n / 10. Two digits, the most common case, are written at once.
-fn digits(out: &mut [u8], at: usize, n: u32) -> usize
-    requires { ⌜ at + length (decimal n) ≤ length (now out) ⌝ }
+// Whether a line's room is left behind a place, with no sum that could wrap.
+fn has_room(size: usize, at: usize) -> bool
+    ensures { λ r. ⌜ r ≡ leb (at + lineRoom) size ⌝ }
+{
+    if size < LINE_ROOM {
+        return false;
+    }
+    at <= size - LINE_ROOM
+}
+
+// Writes a text. One that is fixed where it is called is copied by words, since the compiler knows its length.
+fn put(out: &mut [u8], at: usize, text: &[u8]) -> usize
+    requires { ⌜ at + length (now text) ≤ length (now out) ⌝ }
+    ensures { λ r. ⌜ Appended (now (text .entry)) (now (out .entry)) at (now (out .exit)) r ⌝ }
+{
+    let mut i = 0;
+    while i < text.len() {
+        out[at + i] = text[i];
+        i += 1;
+    }
+    at + i
+}
+
+// Writes the last two digits of a number.
+fn put_two(out: &mut [u8], at: usize, n: u32) -> usize
+    requires { ⌜ at + 2 ≤ length (now out) ⌝ }
+    ensures { λ r. ⌜ Appended ((48 + n / 10 % 10) ∷ (48 + n % 10) ∷ []) (now (out .entry)) at (now (out .exit)) r ⌝ }
+{
+    out[at] = (ZERO + n / 10 % 10) as u8;
+    out[at + 1] = (ZERO + n % 10) as u8;
+    at + 2
+}
+
+// Writes a number of one digit or two.
+fn put_small(out: &mut [u8], at: usize, n: u32) -> usize
+    requires { ⌜ (n < 100) × (at + length (decimal n) ≤ length (now out)) ⌝ }
     ensures { λ r. ⌜ Appended (decimal n) (now (out .entry)) at (now (out .exit)) r ⌝ }
 {
     if n < 10 {
         out[at] = (ZERO + n) as u8;
         return at + 1;
     }
-    if n < 100 {
-        out[at] = (ZERO + n / 10) as u8;
-        out[at + 1] = (ZERO + n % 10) as u8;
-        return at + 2;
-    }
-    let end = digits(out, at, n / 10);
-    out[end] = (ZERO + n % 10) as u8;
-    end + 1
+    put_two(out, at, n)
 }
 
-// Writes a template with the numbers in its gaps, one after the other.
-fn fill(out: &mut [u8], at: usize, template: &[u8], numbers: &[u32]) -> usize
-    requires { ⌜ at + length (filled (now template) (now numbers)) ≤ length (now out) ⌝ }
-    ensures { λ r. ⌜ Appended (filled (now (template .entry)) (now (numbers .entry)))
+// Writes a number, its last two digits behind those of n / 100.
+fn put_large(out: &mut [u8], at: usize, n: u32) -> usize
+    requires { ⌜ at + length (decimal n) ≤ length (now out) ⌝ }
+    ensures { λ r. ⌜ Appended (decimal n) (now (out .entry)) at (now (out .exit)) r ⌝ }
+{
+    if n < 100 {
+        return put_small(out, at, n);
+    }
+    let end = put_large(out, at, n / 100);
+    put_two(out, end, n)
+}
+
+// Writes a text and a number behind it. Most numbers are small, and are written without a call.
+fn put_number(out: &mut [u8], at: usize, text: &[u8], n: u32) -> usize
+    requires { ⌜ at + length (now text ++ decimal n) ≤ length (now out) ⌝ }
+    ensures { λ r. ⌜ Appended (now (text .entry) ++ decimal n) (now (out .entry)) at (now (out .exit)) r ⌝ }
+{
+    let end = put(out, at, text);
+    if n < 100 {
+        put_small(out, end, n)
+    } else {
+        put_large(out, end, n)
+    }
+}
+
+// Writes a number between two texts.
+fn put_between(out: &mut [u8], at: usize, before: &[u8], n: u32, behind: &[u8]) -> usize
+    requires { ⌜ at + length ((now before ++ decimal n) ++ now behind) ≤ length (now out) ⌝ }
+    ensures { λ r. ⌜ Appended ((now (before .entry) ++ decimal n) ++ now (behind .entry))
         (now (out .entry)) at (now (out .exit)) r ⌝ }
 {
-    let mut end = at;
-    let mut next = 0;
-    let mut i = 0;
-    while i < template.len() {
-        let byte = template[i];
-        i += 1;
-        if byte == GAP {
-            if next < numbers.len() {
-                end = digits(out, end, numbers[next]);
-                next += 1;
-                continue;
-            }
-        }
-        out[end] = byte;
-        end += 1;
-    }
-    end
+    let end = put_number(out, at, before, n);
+    put(out, end, behind)
+}
+
+// Writes the line of a slot with a packet.
+fn put_real(out: &mut [u8], at: usize, id: u32, packet: Packet, padding: u32) -> usize
+    requires { ⌜ at + length (printed (Answer.Slot (Outcome.Real id packet padding))) ≤ length (now out) ⌝ }
+    ensures { λ r. ⌜ Appended (printed (Answer.Slot (Outcome.Real id packet padding)))
+        (now (out .entry)) at (now (out .exit)) r ⌝ }
+{
+    let id_end = put_number(out, at, b"(slot (real ", id);
+    let handle_end = put_number(out, id_end, b" ", packet.handle);
+    let length_end = put_number(out, handle_end, b" ", packet.length);
+    put_between(out, length_end, b" ", padding, b"))\n")
 }
 
 // Writes the line of a slot.
-fn slot(out: &mut [u8], at: usize, outcome: Outcome) -> usize
+fn put_slot(out: &mut [u8], at: usize, outcome: Outcome) -> usize
     requires { ⌜ at + lineRoom ≤ length (now out) ⌝ }
     ensures { λ r. ⌜ Appended (printed (Answer.Slot outcome)) (now (out .entry)) at (now (out .exit)) r ⌝ }
     ensures { λ r. ⌜ r ≤ at + lineRoom ⌝ }
@@ -72,44 +120,33 @@ fn slot(out: &mut [u8], at: usize, outcome: Outcome) -> usize
             id,
             packet,
             padding,
-        } => {
-            let numbers = [id, packet.handle, packet.length, padding];
-            fill(out, at, b"(slot (real # # # #))\n", &numbers)
-        }
-        Outcome::Dummy { id } => {
-            let numbers = [id];
-            fill(out, at, b"(slot (dummy #))\n", &numbers)
-        }
-        Outcome::Idle { id } => {
-            let numbers = [id];
-            fill(out, at, b"(slot (idle #))\n", &numbers)
-        }
-        Outcome::None => {
-            let numbers: [u32; 0] = [];
-            fill(out, at, b"(slot (none))\n", &numbers)
-        }
+        } => put_real(out, at, id, packet, padding),
+        Outcome::Dummy { id } => put_between(out, at, b"(slot (dummy ", id, b"))\n"),
+        Outcome::Idle { id } => put_between(out, at, b"(slot (idle ", id, b"))\n"),
+        Outcome::None => put(out, at, b"(slot (none))\n"),
     }
 }
 
-// Writes the line of an answer from a place on and gives the place behind it, or the same place where there is no room.
+// Writes the line of a refusal from a place on and gives the place behind it, or the same place where there is no room.
+pub fn print_refused(out: &mut [u8], at: usize, number: u32) -> usize
+    ensures { λ r. ⌜ Printed (Answer.Refused number) (now (out .entry)) at (now (out .exit)) r ⌝ }
+{
+    if !has_room(out.len(), at) {
+        return at;
+    }
+    put_between(out, at, b"(refused ", number, b")\n")
+}
+
+// Writes the line of an answer in the same way.
 pub fn print(out: &mut [u8], at: usize, answer: Answer) -> usize
     ensures { λ r. ⌜ Printed answer (now (out .entry)) at (now (out .exit)) r ⌝ }
 {
-    if out.len() < LINE_ROOM {
-        return at;
-    }
-    if out.len() - LINE_ROOM < at {
+    if !has_room(out.len(), at) {
         return at;
     }
     match answer {
-        Answer::Accepted => {
-            let numbers: [u32; 0] = [];
-            fill(out, at, b"(ok)\n", &numbers)
-        }
-        Answer::Refused { number } => {
-            let numbers = [number];
-            fill(out, at, b"(refused #)\n", &numbers)
-        }
-        Answer::Slot { outcome } => slot(out, at, outcome),
+        Answer::Accepted => put(out, at, b"(ok)\n"),
+        Answer::Refused { number } => print_refused(out, at, number),
+        Answer::Slot { outcome } => put_slot(out, at, outcome),
     }
 }

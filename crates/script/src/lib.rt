@@ -1,5 +1,4 @@
 // A script from its first byte to its last: each line is parsed, carried out and answered by one printed line.
-use definitions::Answer;
 use definitions::Call;
 use grammar::Line;
 use order::LINKS;
@@ -150,7 +149,7 @@ fn line(
     let end = span.end;
     let next = span.next;
     if end == text.len() {
-        let more = printer::print(out, written, Answer::Refused { number: NO_FORM });
+        let more = printer::print_refused(out, written, NO_FORM);
         return Progress {
             control,
             next,
@@ -160,7 +159,7 @@ fn line(
     let read = parser::parse(&text[at..end]);
     let Line::Form { call } = read else {
         let number = unread_number(read);
-        let more = printer::print(out, written, Answer::Refused { number });
+        let more = printer::print_refused(out, written, number);
         return Progress {
             control,
             next,
@@ -223,7 +222,7 @@ pub fn run(text: &[u8], out: &mut [u8]) -> usize
         return 0;
     }
     if text.len() > TEXT_LIMIT {
-        return printer::print(out, 0, Answer::Refused { number: TOO_LONG });
+        return printer::print_refused(out, 0, TOO_LONG);
     }
     let mut clients: [u32; CLIENTS] = [0; CLIENTS];
     let mut handles: [u32; STORE] = [0; STORE];

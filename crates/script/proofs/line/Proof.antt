@@ -9,13 +9,6 @@ use Rattle.script.proofs.Walks.{walk-open, walk-unread, walk-form}
 use borrow.Author.Needs.{needs}
 use Rattle.script.proofs.line.Statement.{statement}
 use Rattle.script.proofs.line.Tie as tie
-use Rattle.script.proofs.line.Reads as reads
-use Rattle.script.proofs.line.Lts as lts
-use Rattle.parser.proofs.parse.Reads as parse-reads
-use Rattle.printer.proofs.print.Reads as print-reads
-use Rattle.reader.proofs.line_at.Reads as line-at-reads
-use Rattle.script.proofs.perform.Reads as perform-reads
-use Rattle.script.proofs.unread_number.Reads as unread-number-reads
 
 -- what holds where the line ends
 ends : (c : tie.After-line-at) → let start = c .before .before .before .args in LineEnd (start .text .now) (start .at) (c .line-at .result .end)
@@ -24,8 +17,8 @@ ends c = span-end _ _ _ (c .line-at .ensures) (omega arith)
 line-at-requires : tie.Need-line-at-requires
 line-at-requires c κs = search needs
 
-print-requires : tie.Need-print-requires
-print-requires c κs = search needs
+print-refused-requires : tie.Need-print-refused-requires
+print-refused-requires c κs = search needs
 
 same-length : tie.Need-same-length
 same-length c = search needs
@@ -35,7 +28,7 @@ returns c =
     let found = c .before .before .before .before .before in
     let start = found .before .before .before in
     walk-open _ _ _ _ _ _ (start .pre .0) (start .pre .1) _ (found .line-at .ensures) _ _ (c .before .before .before .before .if1 .taken)
-    (c .before .before .print .ensures)
+    (c .before .before .print-refused .ensures)
 
 sub-parse : tie.Need-sub-parse
 sub-parse c = let end = ends (c .before) in omega arith
@@ -58,8 +51,8 @@ enum-told c = search needs
 unread-number-requires : tie.Need-unread-number-requires
 unread-number-requires c κs = search needs
 
-print-requires-2 : tie.Need-print-requires-2
-print-requires-2 c κs = search needs
+print-refused-requires-2 : tie.Need-print-refused-requires-2
+print-refused-requires-2 c κs = search needs
 
 same-length-2 : tie.Need-same-length-2
 same-length-2 c = search needs
@@ -73,13 +66,13 @@ returns-2 c =
     let none = c .before .before .before .before .before .enum-told .given .1 in
     walk-unread _ _ _ _ _ _ (start .pre .0) (start .pre .1) _ (found .line-at .ensures) (omega (arith, within)) _ _ _
     (sym (c .before .before .before .before .before .before .before .parse .ensures) ∙ none ∙ ap Unread (sym (c .before .before .before .before .unread-number .ensures ∙ ap unreadNumber none)))
-    (c .before .before .print2 .ensures)
+    (c .before .before .print-refused2 .ensures)
 
 perform-requires : tie.Need-perform-requires
 perform-requires c κs = search needs
 
-print-requires-3 : tie.Need-print-requires-3
-print-requires-3 c κs = search needs
+print-requires : tie.Need-print-requires
+print-requires c κs = search needs
 
 same-length-3 : tie.Need-same-length-3
 same-length-3 c = search needs
@@ -92,14 +85,14 @@ returns-3 c =
     let more = c .before .before .before .before .before .before .before .before .before .before .before .before .before .before .before .if1 .left in
     walk-form _ _ _ _ _ _ (start .pre .0) (start .pre .1) _ (found .line-at .ensures) (omega (arith, within)) _ _ _
     (sym (c .before .before .before .before .before .before .before .before .before .before .before .before .before .parse .ensures) ∙ c .before .before .before .before .before .before .before .before .before .before .before .read .given .1) _ _
-    (c .before .before .before .before .before .perform .ensures) (c .before .before .print3 .ensures)
+    (c .before .before .before .before .before .perform .ensures) (c .before .before .print .ensures)
 
 pub line-spec : {M : Type 1} → statement M
 line-spec =
     tie.close
     (tie.spec
     line-at-requires
-    print-requires
+    print-refused-requires
     same-length
     returns
     sub-parse
@@ -109,10 +102,10 @@ line-spec =
     enum-known-read
     enum-told
     unread-number-requires
-    print-requires-2
+    print-refused-requires-2
     same-length-2
     returns-2
     perform-requires
-    print-requires-3
+    print-requires
     same-length-3
     returns-3)

@@ -10,10 +10,6 @@ use Rattle.script.specs.Walk.{Walking}
 use Rattle.script.proofs.Steps.{all-walked}
 use Rattle.script.proofs.lines.Statement.{statement}
 use Rattle.script.proofs.lines.Tie as tie
-use Rattle.script.proofs.lines.Reads as reads
-use Rattle.script.proofs.lines.Lts as lts
-use Rattle.reader.proofs.ended.Reads as ended-reads
-use Rattle.script.proofs.line.Reads as line-reads
 
 abbrev Inv-loop : tie.InvT-loop
 Inv-loop text out₀ clients₀ handles₀ lengths₀ links₀ core₀ at₀ written₀ out clients handles lengths links core at written =

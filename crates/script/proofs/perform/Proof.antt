@@ -2,15 +2,6 @@
 use borrow.Author.Needs.{needs}
 use Rattle.script.proofs.perform.Statement.{statement}
 use Rattle.script.proofs.perform.Tie as tie
-use Rattle.script.proofs.perform.Reads as reads
-use Rattle.script.proofs.perform.Lts as lts
-use Rattle.opening.proofs.open.Reads as open-reads
-use Rattle.settings.proofs.change.Reads as change-reads
-use Rattle.settings.proofs.join.Reads as join-reads
-use Rattle.settings.proofs.leave.Reads as leave-reads
-use Rattle.slot.proofs.tick.Reads as tick-reads
-use Rattle.traffic.proofs.arrive.Reads as arrive-reads
-use Rattle.traffic.proofs.load.Reads as load-reads
 
 enum-known-call : tie.Need-enum-known-call
 enum-known-call c = search needs

@@ -7,25 +7,20 @@ use Rattle.script.proofs.Wholes.{given-bare, given-long, given-lines, b
 use borrow.Author.Needs.{needs}
 use Rattle.script.proofs.run.Statement.{statement}
 use Rattle.script.proofs.run.Tie as tie
-use Rattle.script.proofs.run.Reads as reads
-use Rattle.script.proofs.run.Lts as lts
-use Rattle.opening.proofs.unopened.Reads as unopened-reads
-use Rattle.printer.proofs.print.Reads as print-reads
-use Rattle.script.proofs.lines.Reads as lines-reads
 
 returns : tie.Need-returns
 unfolding outRoom textLimit
 returns c = let start = c .before .before .before .args in given-bare (start .text .now) (start .out .now) (omega arith)
 
-print-requires : tie.Need-print-requires
-print-requires c κs = search needs
+print-refused-requires : tie.Need-print-refused-requires
+print-refused-requires c κs = search needs
 
 same-length : tie.Need-same-length
 same-length c = search needs
 
 returns-2 : tie.Need-returns-2
 unfolding outRoom textLimit
-returns-2 c = given-long _ _ (omega arith) _ _ (omega arith) (c .before .before .print .ensures)
+returns-2 c = given-long _ _ (omega arith) _ _ (omega arith) (c .before .before .print-refused .ensures)
 
 unopened-requires : tie.Need-unopened-requires
 unopened-requires c κs = search needs
@@ -49,7 +44,7 @@ run-spec =
     tie.close
     (tie.spec
     returns
-    print-requires
+    print-refused-requires
     same-length
     returns-2
     unopened-requires
