@@ -5,15 +5,6 @@ use lib.ListN.{length-take}
 use borrow.Author.Needs.{needs}
 use Rattle.slots.proofs.main.Statement.{statement}
 use Rattle.slots.proofs.main.Tie as tie
-use Rattle.slots.proofs.main.Reads as reads
-use Rattle.slots.proofs.main.Lts as lts
-use Rattle.io.proofs.large_buffer.Reads as large-buffer-reads
-use Rattle.io.proofs.read_full.Reads as read-full-reads
-use Rattle.io.proofs.write_all.Reads as write-all-reads
-use Rattle.os.proofs.errno.Reads as errno-reads
-use Rattle.os.proofs.fail.Reads as fail-reads
-use Rattle.script.proofs.run.Reads as run-reads
-use Rattle.slots.proofs.out_room.Reads as out-room-reads
 
 large-buffer-requires : tie.Need-large-buffer-requires
 large-buffer-requires c κs = search needs

@@ -3,8 +3,6 @@ use Rattle.script.proofs.Wholes.{out-room}
 use Rattle.slots.proofs.Rooms.{room-repeat}
 use Rattle.slots.proofs.out_room.Statement.{statement}
 use Rattle.slots.proofs.out_room.Tie as tie
-use Rattle.slots.proofs.out_room.Reads as reads
-use Rattle.slots.proofs.out_room.Lts as lts
 
 returns : tie.Need-returns
 returns c = room-repeat _ 0 out-room
