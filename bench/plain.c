@@ -8,6 +8,7 @@ enum {
     MAX_POOL = 255,
     MIN_LENGTH = 64,
     MAX_LENGTH = 1518,
+    MAX_THROWS = 8, /* in one draw; the next value counts as it is */
     ORDER_END = PLAIN_PLACES,
     REFILL_GROUP = 8, /* ids refilled together, as two vectors */
 };
@@ -186,17 +187,35 @@ uint32_t plain_arrive(plain_core *core, uint32_t id, uint32_t handle, uint32_t l
 
 /* Tick */
 
-static inline uint32_t step(plain_core *core) {
-    uint32_t v = core->generator;
+static inline uint32_t step(uint32_t v) {
     v ^= v << 13;
     v ^= v >> 17;
     v ^= v << 5;
-    return core->generator = v;
+    return v;
+}
+
+/* A draw's target, the generator after it and the steps it took. */
+typedef struct {
+    uint32_t target, generator, steps;
+} drawn;
+
+/* Even odds (S-1): a value not below the limit, the largest multiple of the sum that is at most
+   2^32, is thrown away. Every value up to 2^32 - sum counts, so that the limit, which costs a
+   division, is worked out for the few above it only. */
+static inline drawn draw_target(uint32_t generator, uint32_t sum) {
+    uint32_t v = step(generator), steps = 1;
+    if (__builtin_expect(v > -sum, 0)) {
+        uint64_t limit = (UINT64_C(1) << 32) - -sum % sum; /* -sum is 2^32 - sum */
+        for (; v >= limit && steps <= MAX_THROWS; steps++) v = step(v);
+    }
+    return (drawn){v % sum, v, steps};
 }
 
 /* The id drawn among the marks, whose rates have the sum given. */
 static inline uint32_t draw(plain_core *core, uint64_t marks, uint32_t sum) {
-    int32_t target = (int32_t)(step(core) % sum);
+    drawn d = draw_target(core->generator, sum);
+    core->generator = d.generator;
+    int32_t target = (int32_t)d.target;
     for (;; marks &= marks - 1) {
         uint32_t id = (uint32_t)__builtin_ctzll(marks);
         target -= core->rate[id];

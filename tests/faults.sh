@@ -1,8 +1,9 @@
 #!/bin/sh
-# Shows that the tests can fail: builds the second program with each fault of paper 01's list and runs the tests on it.
+# Shows that the tests can fail: builds the second program with each fault of paper 01's list, and with the plain remainder that S-1
+# of paper 02 does away with, and runs the tests on it.
 #   tests/faults.sh BUILD    in the root of the repository, after the build of tests/run
-# `compare` and the long run must catch all six, `pairs` the first four (the other two cannot be seen by pairs, see
-# src/pairs.rs), `stretches` the first five (the last one needs longer queues than fit a stretch).
+# `compare` and the long run must catch all seven, `pairs` the first four (the others cannot be seen by pairs, see
+# src/pairs.rs), `stretches` all but 5b (which needs longer queues than fit a stretch).
 # Prints a line for each; the printouts stay in BUILD/fault-N.
 build=$1 passed=0 failed=0
 
@@ -29,7 +30,7 @@ try() { # fault, test, caught or not seen, the test's arguments
 }
 
 "$build/long" 1 3 >"$build/long.txt"
-for fault in 1 2 3 4 5 5b; do
+for fault in 1 2 3 4 5 5b 6; do
     folder=$build/fault-$fault
     rm -rf "$folder" && mkdir -p "$folder" && cp -r second/src "$folder/src" || exit 2
     patch -s -p1 -d "$folder" <"second/faults/$fault.patch" || exit 2
@@ -38,7 +39,7 @@ for fault in 1 2 3 4 5 5b; do
     done
     mv "$folder/main" "$folder/slots"
     in_pairs=caught in_stretches=caught
-    case $fault in 5*) in_pairs="not seen" ;; esac
+    case $fault in 5* | 6) in_pairs="not seen" ;; esac
     case $fault in 5b) in_stretches="not seen" ;; esac
     try $fault compare caught 1 2000
     try $fault pairs "$in_pairs" 1 300

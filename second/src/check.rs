@@ -1,7 +1,9 @@
-//! The printed example, P1 to P12, every number of the table, and the grammar of the script.
-//! Expected values are the paper's own.
+//! The printed example, P1 to P12, every number of the table, the draw of S-1, and the grammar of
+//! the script. Expected values are the papers' own; the seeds and values of S-1's draws were
+//! reckoned apart from this program.
 
-use crate::core::{xorshift32, Answer, Call, Core, Opened, INDIFFERENT, PRIVATE};
+use crate::core::{even_draw, xorshift32, Answer, Call, Core, Draw, Opened, Outcome, INDIFFERENT,
+                  PRIVATE};
 use crate::script::{parse, run, Line};
 
 fn printed(text: &str) -> String {
@@ -292,6 +294,122 @@ fn weighted_draw_among_the_indifferent() {
     let wanted = "(slot (real 5 3 64 0))\n(slot (real 2 1 64 0))\n(slot (real 2 2 64 0))\n\
                   (slot (none))\n";
     assert_eq!(printed(text), format!("{}{}", "(ok)\n".repeat(6), wanted));
+}
+
+/// S-1: "The printout in document 01 stays right": its three draws throw nothing away.
+#[test]
+fn s1_example() {
+    assert_eq!(even_draw(1, 400), Draw { target: 369, generator: 270369, steps: 1 });
+    assert_eq!(even_draw(270369, 400), Draw { target: 289, generator: 67634689, steps: 1 });
+    assert_eq!(even_draw(67634689, 400), Draw { target: 261, generator: 2647435461, steps: 1 });
+}
+
+/// Seed 1584200935 gives 4294967295, 253983. The largest multiple of 641 that is at most
+/// 4294967296 is 4294966656, so that the first of the two is thrown away.
+#[test]
+fn s1_one_throw() {
+    assert_eq!(xorshift32(1584200935), 4294967295);
+    assert_eq!(even_draw(1584200935, 641), Draw { target: 147, generator: 253983, steps: 2 });
+}
+
+/// "not below": 4294966656 itself is thrown away, 4294966655 is not.
+#[test]
+fn s1_both_sides_of_the_multiple() {
+    assert_eq!(xorshift32(1897218331), 4294966656);
+    assert_eq!(even_draw(1897218331, 641), Draw { target: 54, generator: 162548039, steps: 2 });
+    assert_eq!(xorshift32(2883721922), 4294966655);
+    assert_eq!(even_draw(2883721922, 641), Draw { target: 640, generator: 4294966655, steps: 1 });
+}
+
+/// "at most 4294967296": a sum that divides 4294967296 throws nothing away.
+#[test]
+fn s1_sums_that_divide() {
+    assert_eq!(even_draw(1584200935, 1), Draw { target: 0, generator: 4294967295, steps: 1 });
+    assert_eq!(even_draw(1584200935, 2), Draw { target: 1, generator: 4294967295, steps: 1 });
+    assert_eq!(even_draw(1584200935, 1024), Draw { target: 1023, generator: 4294967295, steps: 1 });
+}
+
+/// A sum whose largest multiple is the sum itself, so that about every second value is thrown.
+const HALF: u32 = 2147483649;
+
+/// How many of the next ten values from a seed, without a gap from the first, are not below HALF.
+fn high_values(seed: u32) -> u32 {
+    let mut value = seed;
+    for count in 0..10 {
+        value = xorshift32(value);
+        if value < HALF {
+            return count;
+        }
+    }
+    10
+}
+
+/// Seven throws; the eighth value, 1693661945, is below the multiple and counts.
+#[test]
+fn s1_seven_throws() {
+    assert_eq!(high_values(8381), 7);
+    assert_eq!(even_draw(8381, HALF),
+               Draw { target: 1693661945, generator: 1693661945, steps: 8 });
+}
+
+/// "After the eighth throw in one draw the ninth value counts as it is": below the multiple
+/// (468021351), not below it with a tenth that is (2511358754), and not below it with a tenth that
+/// is not either (2703635640).
+#[test]
+fn s1_eight_throws() {
+    assert_eq!(high_values(8508), 8);
+    assert_eq!(even_draw(8508, HALF), Draw { target: 468021351, generator: 468021351, steps: 9 });
+    assert_eq!(high_values(8868), 9);
+    assert_eq!(even_draw(8868, HALF), Draw { target: 363875105, generator: 2511358754, steps: 9 });
+    assert_eq!(high_values(8368), 10);
+    assert_eq!(even_draw(8368, HALF), Draw { target: 556151991, generator: 2703635640, steps: 9 });
+}
+
+/// "Every user of the draw takes this over": rates 300 and 341 under rule 2, and under rule 1 with
+/// discipline 1. Targets 147 and 67 of 641; the value thrown away would have drawn 5 with 639.
+#[test]
+fn s1_users() {
+    for kind in [PRIVATE, INDIFFERENT] {
+        let burst = if kind == PRIVATE { 0 } else { 4 };
+        let mut core = Core::new();
+        open(&mut core, 1024, 1, 1584200935);
+        join(&mut core, 2, kind, 300, burst);
+        join(&mut core, 5, kind, 341, burst);
+        for id in [2, 5] {
+            arrive(&mut core, id, id * 10, 1518);
+            arrive(&mut core, id, id * 10 + 1, 1518);
+        }
+        for (handle, generator) in [(20, 253983), (21, 4228382207)] {
+            let outcome = Outcome::Real { id: 2, handle, length: 1518, padding: 0 };
+            assert_eq!(core.perform(&Call::Tick), Answer::Slot(outcome));
+            assert_eq!(opened(&core).generator, generator);
+        }
+    }
+}
+
+/// The sum is that of the rates in the draw alone: with 640 in it, 4294967295 is thrown away (the
+/// largest multiple is 4294967040); with 512 it counts, whatever the other rates are.
+#[test]
+fn s1_sum_of_the_draw() {
+    for (rate, generator) in [(640, 253983), (512, 4294967295)] {
+        let mut core = Core::new();
+        open(&mut core, 1024, 1, 1584200935);
+        join(&mut core, 1, PRIVATE, rate, 0);
+        join(&mut core, 2, INDIFFERENT, 129, 1);
+        assert_eq!(core.perform(&Call::Tick), Answer::Slot(Outcome::Idle { id: 1 }));
+        assert_eq!(opened(&core).generator, generator);
+    }
+}
+
+/// Discipline 0 under rule 1 makes no draw, so nothing is thrown away either.
+#[test]
+fn s1_no_draw() {
+    let mut core = Core::new();
+    open(&mut core, 1024, 0, 1584200935);
+    join(&mut core, 2, INDIFFERENT, 641, 1);
+    arrive(&mut core, 2, 1, 64);
+    core.perform(&Call::Tick);
+    assert_eq!(opened(&core).generator, 1584200935);
 }
 
 #[test]

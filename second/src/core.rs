@@ -1,4 +1,5 @@
-//! The slot core of paper 01: clients, queues, pools, buckets and the seven calls.
+//! The slot core of paper 01: clients, queues, pools, buckets and the seven calls, with the draw
+//! of paper 02, S-1. Sentences quoted without a paper's number are paper 01's.
 //! Checking and doing are kept apart: `refusal` only looks, so "nothing changes".
 
 use std::collections::VecDeque;
@@ -143,6 +144,31 @@ pub fn xorshift32(value: u32) -> u32 {
     v = v ^ (v >> 17);
     v = v ^ (v << 5);
     v
+}
+
+/// Paper 02, S-1: "The draw now gives the target, the new generator state and the number of
+/// steps taken."
+#[derive(Debug, Clone, PartialEq, Eq)]
+pub struct Draw {
+    pub target: u32,
+    pub generator: u32,
+    pub steps: u32,
+}
+
+/// Paper 02, S-1: "A value is now thrown away, and the generator stepped again, if it is not below
+/// the largest multiple of the rate sum that is at most 4294967296. After the eighth throw in one
+/// draw the ninth value counts as it is." Of the value that counts: "The new value modulo the sum
+/// of the rates in the draw is the target." "The last v is both the value given and the value
+/// kept." Every throw is one step, and the value that counts is one more.
+pub fn even_draw(generator: u32, sum: u32) -> Draw {
+    let multiple = 4294967296 / u64::from(sum) * u64::from(sum);
+    let mut value = xorshift32(generator);
+    let mut throws = 0;
+    while throws < 8 && u64::from(value) >= multiple {
+        value = xorshift32(value);
+        throws += 1;
+    }
+    Draw { target: value % sum, generator: value, steps: throws + 1 }
 }
 
 /// The checks: these functions only look.
@@ -423,15 +449,16 @@ impl Opened {
         Some(Outcome::Real { id, handle: packet.handle, length: packet.length, padding })
     }
 
-    /// "A draw steps the generator once. The new value modulo the sum of the rates in the draw
-    /// is the target." "The last v is both the value given and the value kept."
+    /// Paper 02, S-1: "Every user of the draw takes this over." Rules 1 and 2 both draw here, with
+    /// "the sum of the rates in the draw", and the new generator state is kept.
     fn draw(&mut self, ids: &[u32]) -> u32 {
-        self.generator = xorshift32(self.generator);
         let mut sum: u32 = 0;
         for &id in ids {
             sum += self.client(id).rate;
         }
-        self.drawn(ids, self.generator % sum)
+        let draw = even_draw(self.generator, sum);
+        self.generator = draw.generator;
+        self.drawn(ids, draw.target)
     }
 
     /// "The client drawn is the first, by rising id, at which the running sum of rates exceeds

@@ -1,4 +1,5 @@
-//! The slot core of paper 01 and its script, written from that paper alone.
+//! The slot core of paper 01, as amended by S-1 of paper 02, and its script, written from these
+//! words alone.
 
 pub mod core;
 pub mod maker;

@@ -54,7 +54,7 @@ fn call(k: u32, b: u32, c: u32, d: u32) -> Call {
     let rate = d % 33; // "A rate is d mod 33."
     let burst = burst_of(kind, d);
     match k {
-        0 => Call::Open { threshold: b % 1026, discipline: c % 3, seed: d % 16 },
+        0 => Call::Open { threshold: b % 1026, discipline: c % 3, seed: d % 6 * 316840187 },
         1..=160 => Call::Join { id, kind, rate, burst },
         161..=240 => Call::Change { id, kind, rate, burst },
         241..=260 => Call::Leave { id },

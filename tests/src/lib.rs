@@ -7,4 +7,5 @@ pub mod pair;
 pub mod program;
 pub mod random;
 pub mod scripts;
+pub mod seeds;
 pub mod shrink;

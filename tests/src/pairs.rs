@@ -6,7 +6,7 @@
 //! with 14, cannot be seen here, by their nature: which packet of an indifferent client goes out,
 //! its queue and its level are then still functions of the kept calls alone (a private client has
 //! no bucket to refill or to take from, and a change of type gives a full one), so both histories
-//! of a pair go wrong in the same way. `compare` sees them.
+//! of a pair go wrong in the same way. The plain remainder is no leak either. `compare` sees them.
 
 use tests::history::{History, Seen};
 use tests::history;

@@ -4,6 +4,7 @@
 
 use crate::lines::{big_number, line_of, near_miss, odd_byte};
 use crate::random::Random;
+use crate::seeds::high_seed;
 use second::core::{Call, Client, Core, INDIFFERENT, PRIVATE};
 use second::script::{parse, Line};
 
@@ -105,7 +106,8 @@ impl Writer {
         let threshold = if self.random.one_in(2) { self.random.pick(&edges) } else { usual };
         let discipline = self.random.pick(&[0, 1, 0, 1, 0, 1, 0, 1, 2, 3, 256, 4294967295]);
         let word = self.random.word();
-        let seed = self.random.pick(&[0, 1, 2, 4294967295, word, word]);
+        let high = high_seed(&mut self.random);
+        let seed = self.random.pick(&[0, 1, 2, 4294967295, word, high]);
         Call::Open { threshold, discipline, seed }
     }
 
@@ -182,7 +184,8 @@ impl Writer {
 impl Writer {
     fn open(&mut self, discipline: u32) {
         let threshold = self.random.between(900, 1024);
-        let seed = self.random.between(1, 4294967295);
+        let any = self.random.between(1, 4294967295);
+        let seed = if self.random.one_in(3) { high_seed(&mut self.random) } else { any };
         self.call(Call::Open { threshold, discipline, seed });
     }
 

@@ -1,4 +1,4 @@
--- The tables of specs/Cases hold: P1 to P12, and the printout of the paper's script.
+-- The tables of specs/Cases hold: P1 to P12, those of S-1, and the printout of the paper's script.
 -- A test is computed over the whole table and lists the entries that fail, of which there are none; one law turns that into
 -- the claim at each entry. A further entry of a table changes no line here. Assumes nothing.
 use Prim.Native.Nat.{ℕ, suc}
@@ -7,7 +7,7 @@ use mathlib.Core.Bool.{Bool, true, false, cond, _&&_}
 use mathlib.Core.List.{List, [], _∷_, List·Memᴰ, List·Memᴰ·head, List·Memᴰ·tail}
 use lib.Dec.{eqb}
 use borrow.Author.Tests.{eqb-true}
-use Rattle.definitions.specs.Cases.{Case, Holds, ran, said, stream, targetAt, waiting, opened, cases, printout}
+use Rattle.definitions.specs.Cases.{Case, Holds, ran, said, stream, targetAt, waiting, opened, cases, taken, samples, printout}
 use Rattle.definitions.proofs.Everything.{everything}
 use Rattle.definitions.proofs.Laws.Tests.{and-both}
 
@@ -53,6 +53,10 @@ holds n (List·Memᴰ·tail {x} {xs} m) none = holds (suc n) m (rest-same x xs n
 pub casesHold : Holds cases
 unfolding everything failing sameNumbers ran said stream targetAt waiting opened cases
 casesHold c m = holds 1 m refl
+
+pub samplesHold : Holds samples
+unfolding everything failing sameNumbers taken samples
+samplesHold c m = holds 1 m refl
 
 pub printoutHolds : Holds printout
 unfolding everything failing sameNumbers ran said targetAt printout

@@ -1,15 +1,14 @@
 -- The law of the draw: where the ids in it weigh anything, the id drawn is one of them, and the target lies in its share.
 -- It holds since the running sum grows from 0 past the target, and the search stops at the first id at which it has.
-use Prim.Native.Nat.{ℕ, zero, suc, _+_, _≤_, _<_, _%_}
+use Prim.Native.Nat.{ℕ, zero, suc, _+_, _≤_, _<_}
 use mathlib.Core.Path.{_≡_, refl, subst}
 use mathlib.Core.Bool.{Bool, true, false, cond}
-use native.Mathlib.Nat.{mod-lt}
 use native.Mathlib.Omega.{arith}
 use lib.Dec.{ltb}
 use borrow.Author.Tests.{ltb-true, ltb-false}
 use Rattle.definitions.specs.Sizes.{ids}
-use Rattle.definitions.specs.Generator.{stepped}
-use Rattle.definitions.specs.Draw.{sumBelow, firstFrom, drawnAt, targetOf, draw}
+use Rattle.definitions.specs.Draw.{sumBelow, firstFrom, drawnAt, draw}
+use Rattle.definitions.proofs.Sample.{sample-below}
 use Rattle.definitions.proofs.Laws.Sums.{sumBelow-part}
 
 -- that an id below n is the one at which the running sum passes the target
@@ -51,12 +50,12 @@ pub drawing-weighs : {n : ℕ} {weight : ℕ → ℕ} {target id : ℕ} → Draw
 unfolding sumBelow
 drawing-weighs d = omega arith
 
--- the draw of a value: its target is below the sum
-pub targetOf-draws : (weight : ℕ → ℕ) (value : ℕ)
+-- the target of a sample is below the sum
+pub draw-draws : (generator : ℕ) (weight : ℕ → ℕ)
     → 0 < sumBelow ids weight
-    → Drawing ids weight (targetOf weight value) (drawnAt weight (targetOf weight value))
-unfolding targetOf
-targetOf-draws weight value some = drawnAt-draws weight (value % sumBelow ids weight) (mod-lt value some)
+    → Drawing ids weight (draw generator weight .sample .target) (draw generator weight .id)
+unfolding draw
+draw-draws generator weight some = drawnAt-draws weight _ (sample-below (sumBelow ids weight) generator some)
 
 -- what passes a test and has a rate weighs its rate, and everything else nothing
 unfoldable pub weighing : (ℕ → Bool) → (ℕ → ℕ) → ℕ → ℕ
@@ -68,7 +67,7 @@ pub draw-among : (test : ℕ → Bool) (rate : ℕ → ℕ) (generator id : ℕ)
     → test id ≡ true
     → 1 ≤ rate id
     → (draw generator (weighing test rate) .id < ids) × (test (draw generator (weighing test rate) .id) ≡ true)
-unfolding draw weighing
+unfolding weighing
 draw-among test rate generator id below passes some = (d .below, go (test drawn) refl (drawing-weighs d))
   where
     weight : ℕ → ℕ
@@ -80,10 +79,10 @@ draw-among test rate generator id below passes some = (d .below, go (test drawn)
         omega (arith, sumBelow-part ids id weight below)
 
     drawn : ℕ
-    drawn = drawnAt weight (targetOf weight (stepped generator))
+    drawn = draw generator weight .id
 
-    d : Drawing ids weight (targetOf weight (stepped generator)) drawn
-    d = targetOf-draws weight (stepped generator) weighs
+    d : Drawing ids weight (draw generator weight .sample .target) drawn
+    d = draw-draws generator weight weighs
 
     go : (b : Bool) → test drawn ≡ b → 0 < cond b (rate drawn) 0 → test drawn ≡ true
     go true e h = e

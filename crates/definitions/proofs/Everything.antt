@@ -1,7 +1,8 @@
 -- Every shut definition of the calls under one name: a proof that computes with concrete calls unfolds this one.
-use Rattle.definitions.specs.Sizes.{ids, places, poolLimit, shares, burstLimit, shortest, longest, indifferentType, privateType, firstCome, weightedDraw}
+use Rattle.definitions.specs.Sizes.{ids, places, poolLimit, shares, burstLimit, shortest, longest, indifferentType, privateType, throws, firstCome, weightedDraw}
 use Rattle.definitions.specs.Generator.{xorLeft, xorRight, stepped}
-use Rattle.definitions.specs.Draw.{sumBelow, firstFrom, drawnAt, targetOf, draw}
+use Rattle.definitions.specs.Sample.{evenSpan, sampleFrom, sample}
+use Rattle.definitions.specs.Draw.{sumBelow, firstFrom, drawnAt, draw}
 use Rattle.definitions.specs.Client.{kindOf, joining, retuned, changed, loaded, queued, spent, refilled}
 use Rattle.definitions.specs.State.{fresh, put, without, withoutFirst, earliest}
 use Rattle.definitions.specs.Answers.{number, values, word, shown, isAccepted, bears, isDeparture}
@@ -12,8 +13,8 @@ use Rattle.definitions.specs.Core.{step}
 use Rattle.definitions.specs.History.{calls, clientOf, generatorOf, pickOf}
 
 unfoldable pub everything : Type 0
-unfolding ids places poolLimit shares burstLimit shortest longest indifferentType privateType firstCome weightedDraw
-    xorLeft xorRight stepped sumBelow firstFrom drawnAt targetOf draw kindOf joining retuned changed loaded queued spent refilled
+unfolding ids places poolLimit shares burstLimit shortest longest indifferentType privateType throws firstCome weightedDraw
+    xorLeft xorRight stepped evenSpan sampleFrom sample sumBelow firstFrom drawnAt draw kindOf joining retuned changed loaded queued spent refilled
     fresh put without withoutFirst earliest number values word shown isAccepted bears isDeparture checked within activeRate rates
     burstFits openChecks termChecks joinChecks activeChecks changeChecks leaveChecks loadChecks arriveChecks onOpen updated onJoin
     orderAfterChange onChange onLeave onLoad orderAfterArrival onArrive anyBelow contends ruleOf contenderRate privateRate firstTurn

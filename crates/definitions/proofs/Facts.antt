@@ -15,14 +15,14 @@ use Rattle.definitions.specs.declared.Call.{Call}
 use Rattle.definitions.specs.declared.Call.the-variants.{Open, Join, Change, Leave, Load, Arrive, Tick}
 use Rattle.definitions.specs.declared.Answer.the-variants.{Accepted, Refused}
 use Rattle.definitions.specs.Sizes.{ids, places, poolLimit, shares, shortest, longest, firstCome}
-use Rattle.definitions.specs.Generator.{stepped}
-use Rattle.definitions.specs.Draw.{drawnAt, targetOf, draw}
+use Rattle.definitions.specs.Sample.{sample}
+use Rattle.definitions.specs.Draw.{sumBelow, draw}
 use Rattle.definitions.specs.Client.{indifferent, private, isActive, kindOf, Client, retuned, joining, changed, spent, refilled}
 use Rattle.definitions.specs.State.{State, Core, unopened, running}
 use Rattle.definitions.specs.Answers.{isDeparture}
 use Rattle.definitions.specs.Checks.{Check, accepted, refused, checked, within, rates, burstFits, openChecks, termChecks, joinChecks, activeChecks, changeChecks, leaveChecks, loadChecks, arriveChecks}
 use Rattle.definitions.specs.Calls.{onOpen, updated, onJoin, onChange, onLeave, onLoad, onArrive}
-use Rattle.definitions.specs.Tick.{rule1, rule2, rule3, ruleOf, privateRate, firstTurn, turnBy, turn, outcomeBy, refillAll, slotted, onTick}
+use Rattle.definitions.specs.Tick.{rule1, rule2, rule3, ruleOf, contenderRate, privateRate, firstTurn, turnBy, turn, outcomeBy, refillAll, slotted, onTick}
 use Rattle.definitions.specs.Core.{whenOpened, step}
 use Rattle.definitions.specs.History.{clientOf, generatorOf}
 use Rattle.definitions.specs.Bound.{isOpen}
@@ -38,15 +38,16 @@ module _ (s : State) where
   unfolding generatorOf onTick slotted turn turnBy firstTurn
   tick-rule1-firstCome r d = rw (r, eq-eqb (s .discipline) firstCome d)
 
-  -- a slot by rule 1 under any other discipline steps it exactly once
+  -- a slot by rule 1 under any other discipline steps it as often as its sample takes
   pub tick-rule1-drawn : ruleOf (s .clients) ≡ rule1
       → s .discipline ≢ firstCome
-      → generatorOf (onTick s .core) ≡ stepped (s .generator)
+      → generatorOf (onTick s .core) ≡ sample (sumBelow ids (contenderRate (s .clients))) (s .generator) .generator
   unfolding generatorOf onTick slotted turn turnBy firstTurn draw
   tick-rule1-drawn r d = rw (r, ne-eqb (s .discipline) firstCome d)
 
   -- so does a slot by rule 2
-  pub tick-rule2-generator : ruleOf (s .clients) ≡ rule2 → generatorOf (onTick s .core) ≡ stepped (s .generator)
+  pub tick-rule2-generator : ruleOf (s .clients) ≡ rule2
+      → generatorOf (onTick s .core) ≡ sample (sumBelow ids (privateRate (s .clients))) (s .generator) .generator
   unfolding generatorOf onTick slotted turn turnBy draw
   tick-rule2-generator r = rw r
 
@@ -57,8 +58,8 @@ module _ (s : State) where
 
   -- rule 2 draws over the rates of all private clients, and looks at nothing else but the generator
   pub tick-rule2-id : ruleOf (s .clients) ≡ rule2
-      → turn s .id ≡ drawnAt (privateRate (s .clients)) (targetOf (privateRate (s .clients)) (stepped (s .generator)))
-  unfolding turn turnBy draw
+      → turn s .id ≡ draw (s .generator) (privateRate (s .clients)) .id
+  unfolding turn turnBy
   tick-rule2-id r = rw r
 
 -- hence two states pick the same id, whatever waits and whatever the pools hold

@@ -2,7 +2,9 @@
 
 -- laws of the definitions, cited by all that follows
 pub mod Laws
+pub mod Sample
 pub mod Draw
+pub mod Evenness
 -- small facts, and the cases of the paper
 pub mod Everything
 pub mod Facts

@@ -1,4 +1,5 @@
--- The cases marked P (paper 01, "Cases marked P"), and the printout of its script (paper 01, "Script and printout").
+-- The cases marked P (paper 01, "Cases marked P"), cases of the draw's throws (paper 02, S-1), and the printout of paper 01's
+-- script (paper 01, "Script and printout").
 -- A case is what the definitions give, beside what the paper says. A further case is one more entry of the list.
 use Prim.Native.Nat.{ℕ, zero, suc}
 use mathlib.Core.Path.{_≡_}
@@ -8,7 +9,8 @@ use Rattle.definitions.specs.declared.Call.{Call}
 use Rattle.definitions.specs.declared.Call.the-variants.{Open, Join, Change, Load, Arrive, Tick}
 use Rattle.definitions.specs.Sizes.{ids, indifferentType, privateType, firstCome}
 use Rattle.definitions.specs.Generator.{stepped}
-use Rattle.definitions.specs.Draw.{sumBelow, drawnAt, targetOf}
+use Rattle.definitions.specs.Sample.{sample}
+use Rattle.definitions.specs.Draw.{sumBelow, drawnAt, draw}
 use Rattle.definitions.specs.State.{Core, unopened}
 use Rattle.definitions.specs.Answers.{real, dummy, idle, none, shown}
 use Rattle.definitions.specs.Tick.{privateRate}
@@ -44,7 +46,7 @@ stream (suc n) v = stepped v ∷ stream n (stepped v)
 
 -- the target of a draw among the private clients
 unfoldable pub targetAt : Core → ℕ
-targetAt core = targetOf (privateRate (clientOf core)) (stepped (generatorOf core))
+targetAt core = draw (generatorOf core) (privateRate (clientOf core)) .sample .target
 
 -- how many packets of an id wait
 unfoldable pub waiting : Core → ℕ → ℕ
@@ -114,6 +116,26 @@ cases =
     -- P12 "join of an active id with type 9: 6"
     ∷ (said (opened 1024 (Join 3 privateType 100 0 ∷ [])) (Join 3 9 100 0 ∷ [])
     gives 6 ∷ [])
+    ∷ []
+
+-- what a draw of a sum takes from a seed: target, generator and steps
+unfoldable pub taken : ℕ → ℕ → List ℕ
+taken sum seed = sample sum seed .target ∷ sample sum seed .generator ∷ sample sum seed .steps ∷ []
+
+-- S-1 of paper 02. The seeds are those that give the value wanted; no script has a sum that throws away every second value.
+unfoldable pub samples : List Case
+samples =
+    -- the first value is the highest: it is thrown away where the sum does not divide 4294967296
+    (taken 641 1584200935 gives 147 ∷ 253983 ∷ 2 ∷ [])
+    ∷ (taken 1024 1584200935 gives 1023 ∷ 4294967295 ∷ 1 ∷ [])
+    -- the largest multiple of 641 itself is thrown away, and one less is not
+    ∷ (taken 641 1897218331 gives 54 ∷ 162548039 ∷ 2 ∷ [])
+    ∷ (taken 641 2883721922 gives 640 ∷ 4294966655 ∷ 1 ∷ [])
+    -- seven throws, and the eighth value is below the multiple
+    ∷ (taken 2147483649 8381 gives 1693661945 ∷ 1693661945 ∷ 8 ∷ [])
+    -- "After the eighth throw in one draw the ninth value counts as it is": below the multiple, and not below it
+    ∷ (taken 2147483649 8508 gives 468021351 ∷ 468021351 ∷ 9 ∷ [])
+    ∷ (taken 2147483649 8868 gives 363875105 ∷ 2511358754 ∷ 9 ∷ [])
     ∷ []
 
 -- the script of the paper, line by line

@@ -1,11 +1,11 @@
--- The weighted draw (paper 01, "The calls": "A draw steps the generator once").
+-- The weighted draw (paper 01, "The calls": "a draw among all private clients, waiting or not").
 -- A draw knows the generator and a weight for each id, and nothing else. An id that is not in the draw weighs 0, and
 -- so is never drawn: the running sum does not grow at it.
-use Prim.Native.Nat.{ℕ, zero, suc, _+_, _%_}
+use Prim.Native.Nat.{ℕ, zero, suc, _+_}
 use mathlib.Core.Bool.{Bool, true, false}
 use lib.Dec.{ltb}
 use Rattle.definitions.specs.Sizes.{ids}
-use Rattle.definitions.specs.Generator.{stepped}
+use Rattle.definitions.specs.Sample.{Sample, sample}
 
 -- the weights of the first n ids together: the running sum
 unfoldable pub sumBelow : ℕ → (ℕ → ℕ) → ℕ
@@ -21,19 +21,13 @@ firstFrom id (suc n) test = elim (test id) [ true ↦ id | false ↦ firstFrom (
 unfoldable pub drawnAt : (ℕ → ℕ) → ℕ → ℕ
 drawnAt weight target = firstFrom 0 ids (λ id. ltb target (sumBelow (suc id) weight))
 
--- what a draw gives
+-- what a draw gives: the sample that it takes from the generator, and the id at its target
 pub record Drawn : Type 0 where
-  pub generator : ℕ
-  pub target : ℕ
+  pub sample : Sample
   pub id : ℕ
 
--- "The new value modulo the sum of the rates in the draw is the target."
-unfoldable pub targetOf : (ℕ → ℕ) → ℕ → ℕ
-targetOf weight value = value % sumBelow ids weight
+abbrev pub drawnBy : (ℕ → ℕ) → Sample → Drawn
+drawnBy weight s = record { sample = s; id = drawnAt weight (s .target) }
 
 unfoldable pub draw : ℕ → (ℕ → ℕ) → Drawn
-draw generator weight = record {
-  generator = stepped generator;
-  target = targetOf weight (stepped generator);
-  id = drawnAt weight (targetOf weight (stepped generator));
-}
+draw generator weight = drawnBy weight (sample (sumBelow ids weight) generator)

@@ -5,6 +5,7 @@
 pub mod Sizes
 -- the pieces
 pub mod Generator
+pub mod Sample
 pub mod Draw
 pub mod Client
 pub mod State
@@ -20,4 +21,5 @@ pub mod History
 pub mod Sameness
 pub mod Limits
 pub mod Bound
+pub mod Evenness
 pub mod Cases

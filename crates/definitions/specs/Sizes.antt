@@ -1,4 +1,4 @@
--- The sizes that paper 01 fixes, each under one name. They are shut: a proof that needs the digits has to say so.
+-- The sizes that the papers fix, each under one name. They are shut: a proof that needs the digits has to say so.
 use Prim.Native.Nat.{ℕ}
 
 -- "Ids run from 0 to 63."
@@ -34,6 +34,10 @@ indifferentType = 1
 
 unfoldable pub privateType : ℕ
 privateType = 2
+
+-- "After the eighth throw in one draw the ninth value counts as it is" (paper 02, S-1).
+unfoldable pub throws : ℕ
+throws = 8
 
 -- "discipline (0: first come first served; 1: weighted draw)"
 unfoldable pub firstCome : ℕ

@@ -46,7 +46,7 @@ pub record Turn : Type 0 where
   pub generator : ℕ
 
 abbrev pub byDraw : Rule → Drawn → Turn
-byDraw rule d = record { rule = rule; id = d .id; generator = d .generator }
+byDraw rule d = record { rule = rule; id = d .id; generator = d .sample .generator }
 
 -- "Discipline 0: the packet accepted earliest among all indifferent clients. Discipline 1: a draw."
 unfoldable pub firstTurn : State → Turn

@@ -1,5 +1,5 @@
-// The types of paper 01: what is handed to the core and what it answers. Their meaning stands in specs/.
-// Its numbers, too, as the code has them; for the proofs they stand in specs/Sizes.antt, and no two can disagree.
+// The types of the papers: what is handed to the core and what it answers. Their meaning stands in specs/.
+// Their numbers, too, as the code has them; for the proofs they stand in specs/Sizes.antt, and no two can disagree.
 
 // How many ids there are, and how many places each has.
 pub const IDS: u32 = 64;
@@ -17,6 +17,9 @@ pub const POOL_LIMIT: u64 = 255;
 pub const SHORTEST: u32 = 64;
 
 pub const LONGEST: u32 = 1518;
+
+// How many values a draw may throw away.
+pub const THROWS: u32 = 8;
 
 // The types of a client.
 pub const INDIFFERENT: u32 = 1;

@@ -1,11 +1,12 @@
 -- Weights that agree draw the same id: the running sums agree, and so does the first id at which they exceed the target.
 -- Assumes nothing.
 use Prim.Native.Nat.{ℕ, suc, _<_}
-use mathlib.Core.Path.{_≡_, ap}
+use mathlib.Core.Path.{_≡_, ap, _∙_}
 use native.Mathlib.Omega.{arith}
 use lib.Dec.{ltb}
 use Rattle.definitions.specs.Sizes.{ids}
-use Rattle.definitions.specs.Draw.{sumBelow, drawnAt}
+use Rattle.definitions.specs.Sample.{sample}
+use Rattle.definitions.specs.Draw.{sumBelow, drawnAt, drawnBy, draw}
 use Rattle.definitions.proofs.Laws.Sums.{sumBelow-same}
 use Rattle.marks.proofs.Search.{firstFrom-cong}
 
@@ -14,3 +15,11 @@ unfolding drawnAt
 drawnAt-cong f g target same =
     firstFrom-cong ids (λ id. ltb target (sumBelow (suc id) f)) (λ id. ltb target (sumBelow (suc id) g))
     (λ j l. ap (ltb target) (sumBelow-same (suc j) f g (λ i h. same i (omega arith))))
+
+-- and so the whole draw: the sums agree, and with them the sample
+pub draw-cong : (generator : ℕ) (f g : ℕ → ℕ) → ((j : ℕ) → j < ids → f j ≡ g j) → draw generator f ≡ draw generator g
+unfolding draw
+draw-cong generator f g same =
+    let taken = sample (sumBelow ids g) generator in
+    ap (λ (sum : ℕ). drawnBy f (sample sum generator)) (sumBelow-same ids f g same)
+    ∙ ap (λ (id : ℕ). record { sample = taken; id = id }) (drawnAt-cong f g (taken .target) same)

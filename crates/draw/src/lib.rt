@@ -1,11 +1,80 @@
-// The weighted draw over a word of marks and the clients' table, whose rates stand first: the first id, by rising id, at
-// which the running sum of rates exceeds the target. Ids without a mark weigh nothing, and are not visited.
+// The weighted draw over a word of marks and the clients' table, whose rates stand first: a target below the sum of the rates,
+// and the first id, by rising id, at which the running sum exceeds it. Ids without a mark weigh nothing, and are not visited.
 use definitions::IDS;
+use definitions::THROWS;
+use generator::Generator;
 use tables::CLIENTS;
 ghost use mathlib.Core.Path.{_≡_};
-ghost use Rattle.definitions.specs.Sizes.{ids};
+ghost use mathlib.Core.Bool.{not, _&&_};
+ghost use lib.Dec.{leb, ltb};
+ghost use Prim.Native.Nat.{_%_};
+ghost use Rattle.definitions.specs.Sizes.{ids, throws};
+ghost use Rattle.definitions.specs.Sample.{evenSpan, sample};
 ghost use Rattle.definitions.specs.Draw.{sumBelow, drawnAt};
 ghost use Rattle.draw.specs.Weights.{weightAt};
+ghost use Rattle.draw.specs.Samples.{Same-sample};
+
+// How many values of 32 bits there are.
+const VALUES: u64 = 4294967296;
+
+// What a draw takes from the generator: the target, the generator after it, and how many steps it took.
+pub struct Sample {
+    pub target: u32,
+    pub generator: Generator,
+    pub steps: u32,
+}
+
+// Whether a value is below the largest multiple of a total. It is, if the total has room above it, which nearly always spares the
+// division.
+fn counts(value: u32, total: u64) -> bool
+    ensures { λ r. ⌜ r ≡ ltb value (evenSpan total) ⌝ }
+{
+    if total == 0 {
+        return false;
+    }
+    let number = tables::wide(value);
+    if total <= VALUES - number {
+        return true;
+    }
+    number < VALUES - VALUES % total
+}
+
+// Whether the value that so many steps gave is thrown away.
+fn is_thrown(value: u32, total: u64, steps: u32) -> bool
+    ensures { λ r. ⌜ r ≡ leb steps throws && not (ltb value (evenSpan total)) ⌝ }
+{
+    if THROWS < steps {
+        return false;
+    }
+    !counts(value, total)
+}
+
+// The remainder of a value; all of it, where the total is 0.
+fn remainder(value: u32, total: u64) -> u32
+    ensures { λ r. ⌜ r ≡ value % total ⌝ }
+{
+    if total == 0 {
+        return value;
+    }
+    (tables::wide(value) % total) as u32
+}
+
+// A target below the total, with even odds: values that would favour low targets are thrown away.
+pub fn sample_below(total: u64, generator: Generator) -> Sample
+    ensures { λ r. ⌜ Same-sample r (sample total (generator .value)) ⌝ }
+{
+    let mut next = generator.step();
+    let mut steps: u32 = 1;
+    while is_thrown(next.value, total, steps) {
+        next = next.step();
+        steps += 1;
+    }
+    Sample {
+        target: remainder(next.value, total),
+        generator: next,
+        steps,
+    }
+}
 
 // The rates of all ids that have a mark, together. The sum of 64 rates fits a u64.
 pub fn total(word: u64, clients: &[u32; CLIENTS]) -> u64

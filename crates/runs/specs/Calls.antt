@@ -1,6 +1,6 @@
 -- The calls of a long run (docs/LONG_RUNS.md, "The calls"). "Each call takes four draws, a, b, c and d, in this order,
 -- whatever call it is."
-use Prim.Native.Nat.{ℕ, _+_, _/_, _%_}
+use Prim.Native.Nat.{ℕ, _+_, _*_, _/_, _%_}
 use mathlib.Core.Bool.{cond}
 use lib.Dec.{eqb, leb}
 use Rattle.definitions.specs.declared.Packet.{Packet}
@@ -32,7 +32,7 @@ trafficAt k id c d = cond (leb k 516) (Load id (c % 130)) (cond (leb k 3395) (Ar
 
 unfoldable pub callAt : ℕ → ℕ → ℕ → ℕ → Call
 callAt k b c d =
-    cond (eqb k 0) (Open (b % 1026) (c % 3) (d % 16))
+    cond (eqb k 0) (Open (b % 1026) (c % 3) (d % 6 * 316840187))
     (cond (leb k 160) (Join (idOf b) (typeOf c) (rateOf d) (burstOf (typeOf c) d))
     (cond (leb k 240) (Change (idOf b) (typeOf c) (rateOf d) (burstOf (typeOf c) d))
     (cond (leb k 260) (Leave (idOf b)) (trafficAt k (idOf b) c d))))

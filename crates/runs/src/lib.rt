@@ -66,10 +66,11 @@ fn call_of(a: u32, b: u32, c: u32, d: u32) -> Call
 {
     let k = a % 4096;
     if k == 0 {
+        let seed = d % 6 * 316840187;
         return Call::Open {
             threshold: b % 1026,
             discipline: c % 3,
-            seed: d % 16,
+            seed,
         };
     }
     let id = id_of(b);

@@ -1,7 +1,7 @@
 -- Whose slot it is, read off the marks: a word with the marks of those in a draw has the definitions' weights, and the place
 -- accepted earliest is of the id accepted earliest. Assumes nothing.
-use Prim.Native.Nat.{ℕ, zero, suc, _+_, _/_, _≤_, _<_}
-use mathlib.Core.Path.{_≡_, refl, sym, ap, subst, _∙_}
+use Prim.Native.Nat.{ℕ, zero, suc, _+_, _/_, _<_}
+use mathlib.Core.Path.{_≡_, refl, sym, ap, _∙_}
 use mathlib.Core.Logic.{_≢_}
 use mathlib.Core.Bool.{Bool, true, false, cond, _&&_, and-comm}
 use mathlib.Core.List.{List, [], _∷_, map}
@@ -9,19 +9,18 @@ use native.Mathlib.Omega.{arith}
 use lib.Dec.{eqb}
 use borrow.Author.Tests.{eq-eqb, ne-eqb}
 use Rattle.definitions.specs.Sizes.{ids, places, firstCome}
-use Rattle.definitions.specs.Draw.{sumBelow, targetOf, draw}
+use Rattle.definitions.specs.Draw.{Drawn, draw}
 use Rattle.definitions.specs.Client.{Kind, absent, indifferent, private, isActive, isIndifferent, isPrivate, Client, empty}
 use Rattle.definitions.specs.State.{State, earliest}
 use Rattle.definitions.specs.Tick.{anyBelow, contends, ruleOf, contenderRate, privateRate, firstTurn, turnBy, turn}
-use Rattle.definitions.specs.Limits.{LimitsBy, standing, ordered}
+use Rattle.definitions.specs.Limits.{standing, ordered}
 use Rattle.definitions.specs.Checks.{activeRate, rates}
-use Rattle.definitions.proofs.Laws.Clients.{indifferent-kind, private-kind}
-use Rattle.definitions.proofs.Laws.Sums.{sumBelow-same, sumBelow-plus, sumBelow-part, anyBelow-true}
+use Rattle.definitions.proofs.Laws.Sums.{sumBelow-plus, anyBelow-true}
 use Rattle.definitions.proofs.Limits.Turns.{contends-contender}
 use Rattle.marks.specs.Marks.{marked}
 use Rattle.marks.proofs.Search.{anyBelow-cong}
 use Rattle.draw.specs.Weights.{weightAt}
-use Rattle.draw.proofs.Sums.{drawnAt-cong}
+use Rattle.draw.proofs.Sums.{draw-cong}
 use Rattle.order.specs.Order.{frontOf}
 use Rattle.order.specs.Owner.{owner}
 use Rattle.order.proofs.Walk.{ordered-walked}
@@ -75,19 +74,8 @@ module _ (c : Control) (t : Tables) (core : Sound-core c t) where
   private-marks id below =
       rw (client-own c t (core .shape) id below) (sym (kind-private c id (core .shape .apart id)))
 
-  limited : (id : ℕ) (k : Kind) → clients id .kind ≡ k → LimitsBy k (clients id)
-  unfolding stateOf
-  limited id k e = subst (λ (x : Kind). LimitsBy x (clients id)) e (core .limits .clientLimits id)
-
-  contender-rated : (id : ℕ) → contends (clients id) ≡ true → 1 ≤ clients id .rate
-  contender-rated id e = limited id indifferent (contends-contender (clients id) e .indifferently) .active .rateLow
-
-  private-rated : (id : ℕ) → isPrivate (clients id .kind) ≡ true → 1 ≤ clients id .rate
-  private-rated id e = limited id private (private-kind (clients id .kind) e) .active .rateLow
-
   -- a word of marks and the test of the definitions that it stands for
-  module _ (word : ℕ) (test : Client → Bool) (agree : (id : ℕ) → id < ids → marked word id ≡ test (clients id))
-      (rated : (id : ℕ) → test (clients id) ≡ true → 1 ≤ clients id .rate) where
+  module _ (word : ℕ) (test : Client → Bool) (agree : (id : ℕ) → id < ids → marked word id ≡ test (clients id)) where
     any-agrees : anyBelow ids (marked word) ≡ anyBelow ids (λ id. test (clients id))
     any-agrees = anyBelow-cong ids (marked word) (λ id. test (clients id)) agree
 
@@ -96,29 +84,12 @@ module _ (c : Control) (t : Tables) (core : Sound-core c t) where
     weight-agrees id below =
         rw (agree id below, sym (rate-first (t .clients) id), client-own c t (core .shape) id below)
 
-    draw-agrees : (g : ℕ)
-        → draw g (weightAt word (t .clients)) .id ≡ draw g (λ id. cond (test (clients id)) (clients id .rate) 0) .id
-    unfolding draw targetOf
-    draw-agrees g =
-        rw (sumBelow-same ids (weightAt word (t .clients)) (λ id. cond (test (clients id)) (clients id .rate) 0) weight-agrees)
-        (drawnAt-cong (weightAt word (t .clients)) (λ id. cond (test (clients id)) (clients id .rate) 0) _ weight-agrees)
-
-    total-positive : anyBelow ids (marked word) ≡ true → 0 < sumBelow ids (weightAt word (t .clients))
-    total-positive e =
-        let found = anyBelow-true ids (λ id. test (clients id)) (sym any-agrees ∙ e) in
-        omega (
-          arith,
-          sumBelow-part ids (found .0) (weightAt word (t .clients)) (found .1),
-          weight-agrees (found .0) (found .1) ∙ ap (λ (b : Bool). cond b (clients (found .0) .rate) 0) (found .2),
-          rated (found .0) (found .2),
-        )
+    draw-agrees : (g : ℕ) → draw g (weightAt word (t .clients)) ≡ draw g (λ id. cond (test (clients id)) (clients id .rate) 0)
+    draw-agrees g = draw-cong g (weightAt word (t .clients)) (λ id. cond (test (clients id)) (clients id .rate) 0) weight-agrees
 
   indifferent-marks : (id : ℕ) → id < ids → marked (c .indifferent) id ≡ isIndifferent (clients id .kind)
   unfolding clientAt
   indifferent-marks id below = rw (client-own c t (core .shape) id below) (sym (kind-indifferent c id))
-
-  indifferent-rated : (id : ℕ) → isIndifferent (clients id .kind) ≡ true → 1 ≤ clients id .rate
-  indifferent-rated id e = limited id indifferent (indifferent-kind (clients id .kind) e) .active .rateLow
 
   -- an active client is of one type, and the control has the rates of all
   pub held-by-both : Held-by-both c (t .clients)
@@ -127,8 +98,8 @@ module _ (c : Control) (t : Tables) (core : Sound-core c t) where
       core .shape .ratesHeld
       ∙ sumBelow-plus ids (weightAt (c .private) (t .clients)) (weightAt (c .indifferent) (t .clients)) (activeRate clients)
       (λ id below. rw (
-        weight-agrees (c .private) (λ x. isPrivate (x .kind)) private-marks private-rated id below,
-        weight-agrees (c .indifferent) (λ x. isIndifferent (x .kind)) indifferent-marks indifferent-rated id below,
+        weight-agrees (c .private) (λ x. isPrivate (x .kind)) private-marks id below,
+        weight-agrees (c .indifferent) (λ x. isIndifferent (x .kind)) indifferent-marks id below,
       ) (by-type (clients id .kind) (clients id .rate)))
     where
       by-type : (k : Kind) (rate : ℕ) → cond (isActive k) rate 0 ≡ cond (isPrivate k) rate 0 + cond (isIndifferent k) rate 0
@@ -143,10 +114,7 @@ module _ (c : Control) (t : Tables) (core : Sound-core c t) where
     contend id below = marks id ∙ contends-marks id below
 
     some-contend : anyBelow ids (marked word) ≡ anyBelow ids (λ id. contends (clients id))
-    some-contend = any-agrees word contends contend contender-rated
-
-    pub contenders-total : anyBelow ids (marked word) ≡ true → 0 < sumBelow ids (weightAt word (t .clients))
-    contenders-total = total-positive word contends contend contender-rated
+    some-contend = any-agrees word contends contend
 
     module _ (any : anyBelow ids (marked word) ≡ true) where
       turn-first : turn s ≡ firstTurn s
@@ -155,13 +123,14 @@ module _ (c : Control) (t : Tables) (core : Sound-core c t) where
 
       pub chosen-contender : c .discipline ≢ 0
           → (r : Choice) → Drawn-among 1 word (c .generator .value) (t .clients) r → Chosen r (turn s)
-      unfolding firstTurn stateOf firstCome contenderRate draw
+      unfolding firstTurn stateOf firstCome contenderRate
       chosen-contender drawn r d =
+          let agrees = draw-agrees word contends contend (c .generator .value) in
           rw (turn-first, ne-eqb (c .discipline) 0 drawn)
           (record {
             rule = d .rule;
-            id = d .id ∙ draw-agrees word contends contend contender-rated (c .generator .value);
-            generator = d .generator;
+            id = d .id ∙ ap (λ (x : Drawn). x .id) agrees;
+            generator = d .generator ∙ ap (λ (x : Drawn). x .sample .generator) agrees;
           })
 
       -- where an indifferent packet waits the order has a first
@@ -198,20 +167,18 @@ module _ (c : Control) (t : Tables) (core : Sound-core c t) where
 
     module _ (none : anyBelow ids (marked word) ≡ false) where
       some-private : anyBelow ids (marked (c .private)) ≡ anyBelow ids (λ id. isPrivate (clients id .kind))
-      some-private = any-agrees (c .private) (λ d. isPrivate (d .kind)) private-marks private-rated
-
-      pub private-total : anyBelow ids (marked (c .private)) ≡ true → 0 < sumBelow ids (weightAt (c .private) (t .clients))
-      private-total = total-positive (c .private) (λ d. isPrivate (d .kind)) private-marks private-rated
+      some-private = any-agrees (c .private) (λ d. isPrivate (d .kind)) private-marks
 
       pub chosen-private : anyBelow ids (marked (c .private)) ≡ true
           → (r : Choice) → Drawn-among 2 (c .private) (c .generator .value) (t .clients) r → Chosen r (turn s)
-      unfolding turn ruleOf turnBy stateOf privateRate draw
+      unfolding turn ruleOf turnBy stateOf privateRate
       chosen-private any r d =
+          let agrees = draw-agrees (c .private) (λ x. isPrivate (x .kind)) private-marks (c .generator .value) in
           rw (sym some-contend ∙ none, sym some-private ∙ any)
           (record {
             rule = d .rule;
-            id = d .id ∙ draw-agrees (c .private) (λ x. isPrivate (x .kind)) private-marks private-rated (c .generator .value);
-            generator = d .generator;
+            id = d .id ∙ ap (λ (x : Drawn). x .id) agrees;
+            generator = d .generator ∙ ap (λ (x : Drawn). x .sample .generator) agrees;
           })
 
       pub chosen-nobody : anyBelow ids (marked (c .private)) ≡ false

@@ -27,7 +27,7 @@ pub record Chosen (r : Choice) (t : Turn) : Type 0 where
 pub record Drawn-among (by word value : ℕ) (clients : List ℕ) (r : Choice) : Type 0 where
   pub rule : r .rule ≡ by
   pub id : r .id ≡ draw value (weightAt word clients) .id
-  pub generator : r .generator .value ≡ draw value (weightAt word clients) .generator
+  pub generator : r .generator .value ≡ draw value (weightAt word clients) .sample .generator
 
 -- the rates held are those of the private clients and those of the indifferent
 abbrev pub Held-by-both : Control → List ℕ → Type 0

@@ -73,7 +73,7 @@ fn private_total(control: Control, clients: &[u32; CLIENTS]) -> u64
     tables::wide(control.rates) - draw::total(control.indifferent, clients)
 }
 
-// A draw among the marked ids, by their rates, whose sum is the total. It steps the generator once.
+// A draw among the marked ids, by their rates, whose sum is the total.
 fn draw_among(
     rule: u32,
     word: u64,
@@ -81,16 +81,16 @@ fn draw_among(
     clients: &[u32; CLIENTS],
     generator: Generator,
 ) -> Choice
-    requires { ⌜ (0 < total) × (total ≡ sumBelow ids (weightAt word (now clients))) ⌝ }
+    requires { ⌜ total ≡ sumBelow ids (weightAt word (now clients)) ⌝ }
     ensures { λ r. ⌜ Drawn-among rule word (generator .value) (now (clients .entry)) r ⌝ }
 {
-    let next = generator.step();
-    let target = tables::wide(next.value) % total;
-    let id = draw::pick(word, clients, target as u32);
+    let sample = draw::sample_below(total, generator);
+    let id = draw::pick(word, clients, sample.target);
+    let after = sample.generator;
     Choice {
         rule,
         id,
-        generator: next,
+        generator: after,
     }
 }
 

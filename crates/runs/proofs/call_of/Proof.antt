@@ -5,6 +5,9 @@ use Rattle.runs.specs.Calls.{callAt, callOf}
 use Rattle.runs.proofs.call_of.Statement.{statement}
 use Rattle.runs.proofs.call_of.Tie as tie
 
+mul-seed : tie.Need-mul-seed
+mul-seed c = search needs
+
 returns : tie.Need-returns
 unfolding callOf callAt
 returns c = rw (eq-eqb _ _ (c .if1 .taken))
@@ -70,6 +73,7 @@ pub call-of-spec : {M : Type 1} → statement M
 call-of-spec =
     tie.close
     (tie.spec
+    mul-seed
     returns
     id-of-requires
     burst-of-requires

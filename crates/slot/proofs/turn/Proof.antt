@@ -1,9 +1,8 @@
 -- `slot::turn` meets its contract: each way through it is the rule of the definitions whose test the marks have passed.
 -- Assumes nothing.
-use native.Mathlib.Omega.{arith}
 use mathlib.Core.Path.{refl, sym, _∙_}
-use Rattle.slot.proofs.Choosing.{held-by-both, contenders-total, chosen-contender, chosen-earliest}
-use Rattle.slot.proofs.Choosing.{private-total, chosen-private, chosen-nobody}
+use Rattle.slot.proofs.Choosing.{held-by-both, chosen-contender, chosen-earliest}
+use Rattle.slot.proofs.Choosing.{chosen-private, chosen-nobody}
 use borrow.Author.Needs.{needs}
 use Rattle.slot.proofs.turn.Statement.{statement}
 use Rattle.slot.proofs.turn.Tie as tie
@@ -18,13 +17,7 @@ total-requires : tie.Need-total-requires
 total-requires c κs = search needs
 
 draw-among-requires : tie.Need-draw-among-requires
-draw-among-requires c κs =
-    let tested = c .before .before .before in
-    let both = tested .before .before in
-    let positive =
-    contenders-total _ _ (both .before .before .pre .2) (both .both .result) (both .both .ensures)
-    (sym (tested .before .any .ensures) ∙ tested .if1 .taken) in
-    (omega (arith, positive, c .total .ensures), c .total .ensures)
+draw-among-requires c κs = c .total .ensures
 
 returns : tie.Need-returns
 returns c h l core =
@@ -52,13 +45,7 @@ private-total-requires : tie.Need-private-total-requires
 private-total-requires c κs = held-by-both _ _ (c .before .before .before .before .before .before .pre .2)
 
 draw-among-requires-2 : tie.Need-draw-among-requires-2
-draw-among-requires-2 c κs =
-    let tested = c .before .before .before in
-    let both = tested .before .before in
-    let positive =
-    private-total _ _ (both .before .before .pre .2) (both .both .result) (both .both .ensures)
-    (sym (tested .before .any .ensures) ∙ tested .if1 .left) (sym (c .before .before .any2 .ensures) ∙ c .before .if3 .taken) in
-    (omega (arith, positive, c .private-total .ensures), c .private-total .ensures)
+draw-among-requires-2 c κs = c .private-total .ensures
 
 returns-3 : tie.Need-returns-3
 returns-3 c h l core =
