@@ -3,6 +3,7 @@
 use crate::history::{is_indifferent, History};
 use crate::lines::{line_of, near_miss};
 use crate::random::Random;
+use crate::seeds::high_seed;
 use second::core::{Call, Core, INDIFFERENT, PRIVATE};
 use second::script::{parse, Line};
 
@@ -161,7 +162,8 @@ impl Maker {
         let threshold = self.random.pick(&[1024, 1024, 1000, 900, 300, 0, 1025]);
         let discipline = self.random.pick(&[0, 1, 0, 1, 0, 1, 2]);
         let word = self.random.word();
-        let seed = self.random.pick(&[word, word, word, 1, 0]);
+        let high = high_seed(&mut self.random);
+        let seed = self.random.pick(&[word, word, high, 1, 0]);
         Call::Open { threshold, discipline, seed }
     }
 

@@ -1,14 +1,18 @@
--- Weights that agree draw the same id: the running sums agree, and so does the first id at which they exceed the target.
+-- Weights that agree draw the same id: the running sums agree, and so does the first id at which they exceed the target. A word
+-- without a mark weighs nothing.
 -- Assumes nothing.
 use Prim.Native.Nat.{ℕ, suc, _<_}
 use mathlib.Core.Path.{_≡_, ap, _∙_}
+use mathlib.Core.List.{List}
 use native.Mathlib.Omega.{arith}
 use lib.Dec.{ltb}
 use Rattle.definitions.specs.Sizes.{ids}
 use Rattle.definitions.specs.Sample.{sample}
 use Rattle.definitions.specs.Draw.{sumBelow, drawnAt, drawnBy, draw}
-use Rattle.definitions.proofs.Laws.Sums.{sumBelow-same}
+use Rattle.definitions.proofs.Laws.Sums.{sumBelow-same, sumBelow-zero}
+use Rattle.marks.proofs.Bits.{marked-none}
 use Rattle.marks.proofs.Search.{firstFrom-cong}
+use Rattle.draw.specs.Weights.{weightAt}
 
 pub drawnAt-cong : (f g : ℕ → ℕ) (target : ℕ) → ((j : ℕ) → j < ids → f j ≡ g j) → drawnAt f target ≡ drawnAt g target
 unfolding drawnAt
@@ -23,3 +27,8 @@ draw-cong generator f g same =
     let taken = sample (sumBelow ids g) generator in
     ap (λ (sum : ℕ). drawnBy f (sample sum generator)) (sumBelow-same ids f g same)
     ∙ ap (λ (id : ℕ). record { sample = taken; id = id }) (drawnAt-cong f g (taken .target) same)
+
+-- a word without a mark weighs nothing
+pub weightless : (clients : List ℕ) → sumBelow ids (weightAt 0 clients) ≡ 0
+unfolding weightAt
+weightless clients = sumBelow-zero ids (weightAt 0 clients) (λ id below. rw (marked-none id))

@@ -62,11 +62,15 @@ struct Choice {
     generator: Generator,
 }
 
-// The rates of all private clients together. The control has those of all clients, so the type with fewer marks is summed up.
+// The rates of all private clients together. The control has those of all clients, so the type with fewer marks is summed up, and
+// none where nobody is indifferent.
 fn private_total(control: Control, clients: &[u32; CLIENTS]) -> u64
     requires { ⌜ Held-by-both control (now clients) ⌝ }
     ensures { λ r. ⌜ r ≡ sumBelow ids (weightAt (control .private) (now (clients .entry))) ⌝ }
 {
+    if control.indifferent == 0 {
+        return tables::wide(control.rates);
+    }
     if u64::count_ones(control.private) < u64::count_ones(control.indifferent) {
         return draw::total(control.private, clients);
     }
