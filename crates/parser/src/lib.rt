@@ -12,6 +12,7 @@ ghost use Rattle.grammar.specs.Templates.{matched};
 ghost use Rattle.grammar.specs.Grammar.{rules, parsedBy, parsed};
 ghost use Rattle.parser.specs.Numbers.{byteOf, digitOf, cap, spelled, Spells};
 ghost use Rattle.parser.specs.Readings.{misfit, add, readAs, judged};
+ghost use Rattle.parser.specs.Texts.{same};
 ghost use Rattle.parser.specs.Words.{wordOf};
 
 // What stands where a line has no byte, and where it has no digit.
@@ -226,6 +227,23 @@ fn read_as(line: &[u8], template: &[u8]) -> Reading
     reading
 }
 
+// Whether a line is a text, byte for byte: what a template without a gap asks, at less cost.
+fn is_same(line: &[u8], text: &[u8]) -> bool
+    ensures { λ r. ⌜ r ≡ same (now (text .entry)) (now (line .entry)) ⌝ }
+{
+    if line.len() != text.len() {
+        return false;
+    }
+    let mut i = 0;
+    while i < text.len() {
+        if line[i] != text[i] {
+            return false;
+        }
+        i += 1;
+    }
+    true
+}
+
 // The answer to a line of the right shape.
 fn judge(reading: Reading, call: Call) -> Line
     ensures { λ r. ⌜ r ≡ judged reading call ⌝ }
@@ -358,9 +376,8 @@ fn parse_arrive(line: &[u8]) -> Line
 fn parse_tick(line: &[u8]) -> Line
     ensures { λ r. ⌜ r ≡ parsedBy (drop 8 rules) (now (line .entry)) ⌝ }
 {
-    let tick = read_as(line, b"(tick)");
-    if tick.shaped {
-        return judge(tick, Call::Tick);
+    if is_same(line, b"(tick)") {
+        return Line::Form { call: Call::Tick };
     }
     Line::Refused { number: 16 }
 }
