@@ -1,5 +1,5 @@
 -- Where the parser stands within a template and a line: what it has found so far, with what the rest of the template finds in
--- the rest of the line, is what the template finds in the line. One law for each way that a byte of the template can go.
+-- the rest of the line, is what the template finds in the line from the place on where it began. One law for each way that a byte of the template can go.
 use Prim.Native.Nat.{ℕ, zero, suc, _+_, _≤_, _<_, min}
 use mathlib.Core.Path.{_≡_, refl, sym, _∙_}
 use mathlib.Core.Bool.{Bool, true, false}
@@ -62,21 +62,21 @@ byte-there [] at h = absurd (omega (arith, rw drop-nil at h))
 byte-there (x ∷ xs) zero h = omega arith
 byte-there (x ∷ xs) (suc at) h = omega (arith, byte-there xs at h)
 
-pub record Walked (line template : List ℕ) (reading : Reading) (at i : ℕ) : Type 0 where
+pub record Walked (line : List ℕ) (from : ℕ) (template : List ℕ) (reading : Reading) (at i : ℕ) : Type 0 where
   pub within : i ≤ length template
-  pub found : readAs (matched template line) ≡ readFrom reading (matched (drop i template) (drop at line))
+  pub found : readAs (matched template (drop from line)) ≡ readFrom reading (matched (drop i template) (drop at line))
 
-pub walked-none : (line template : List ℕ) → Walked line template empty 0 0
+pub walked-none : (line : List ℕ) (from : ℕ) (template : List ℕ) → Walked line from template empty from 0
 unfolding readAs
-walked-none line template = record { within = omega arith; found = refl }
+walked-none line from template = record { within = omega arith; found = refl }
 
-module _ {line template : List ℕ} {reading : Reading} {at i byte : ℕ} (w : Walked line template reading at i)
+module _ {line : List ℕ} {from : ℕ} {template : List ℕ} {reading : Reading} {at i byte : ℕ} (w : Walked line from template reading at i)
     (h : i < length template) (b : byte ≡ getD template i 0) where
   next-byte : drop i template ≡ byte ∷ drop (i + 1) template
   next-byte = rw (b, add-one) (drop-cons template i 0 h)
 
   pub walked-gap : {n : Numeral} {reading′ : Reading} → byte ≡ gap → Spells (drop at line) line n → n .is ≡ true
-      → reading′ ≡ add reading (n .value) → Walked line template reading′ (n .next) (i + 1)
+      → reading′ ≡ add reading (n .value) → Walked line from template reading′ (n .next) (i + 1)
   walked-gap g s e r = record {
     within = omega arith;
     found =
@@ -93,14 +93,14 @@ module _ {line template : List ℕ} {reading : Reading} {at i byte : ℕ} (w : W
   }
 
   pub walked-gap-off : {n : Numeral} → byte ≡ gap → Spells (drop at line) line n → n .is ≡ false
-      → readAs (matched template line) ≡ misfit
+      → readAs (matched template (drop from line)) ≡ misfit
   unfolding readFrom
   walked-gap-off g s e =
       w .found ∙
       rw (next-byte, gap-misfits byte (drop (i + 1) template) (drop at line) (eq-eqb byte gap g) (sym (s .right) ∙ e))
 
   pub walked-byte : {read : ℕ} → (byte ≡ gap → ⊥) → byte < 256 → read ≡ byteOf (drop at line) → read ≡ byte
-      → Walked line template reading (at + 1) (i + 1)
+      → Walked line from template reading (at + 1) (i + 1)
   walked-byte g small r e = record {
     within = omega arith;
     found = w .found ∙ rw (next-byte, first-fits byte (drop (i + 1) template) g (drop at line) small (sym r ∙ e), drop-drop);
@@ -111,15 +111,15 @@ module _ {line template : List ℕ} {reading : Reading} {at i byte : ℕ} (w : W
   walked-there small r e = byte-there line at (omega arith)
 
   pub walked-byte-off : {read : ℕ} → (byte ≡ gap → ⊥) → read ≡ byteOf (drop at line) → (read ≡ byte → ⊥)
-      → readAs (matched template line) ≡ misfit
+      → readAs (matched template (drop from line)) ≡ misfit
   unfolding readFrom
   walked-byte-off g r e = w .found ∙ rw (next-byte, first-misfits byte (drop (i + 1) template) g (drop at line) (λ q. e (r ∙ q)))
 
-module _ {line template : List ℕ} {reading : Reading} {at i : ℕ} (w : Walked line template reading at i) where
-  pub walked-all : length template ≤ i → length line ≤ at → readAs (matched template line) ≡ reading
+module _ {line : List ℕ} {from : ℕ} {template : List ℕ} {reading : Reading} {at i : ℕ} (w : Walked line from template reading at i) where
+  pub walked-all : length template ≤ i → length line ≤ at → readAs (matched template (drop from line)) ≡ reading
   unfolding readFrom collected matched
   walked-all h k = w .found ∙ rw (drop-of-length-le template h, drop-of-length-le line k)
 
-  pub walked-all-off : length template ≤ i → at < length line → readAs (matched template line) ≡ misfit
+  pub walked-all-off : length template ≤ i → at < length line → readAs (matched template (drop from line)) ≡ misfit
   unfolding readFrom matched
   walked-all-off h k = w .found ∙ rw (drop-of-length-le template h, drop-cons line at 0 k)

@@ -12,7 +12,7 @@ ghost use Rattle.grammar.specs.Templates.{matched};
 ghost use Rattle.grammar.specs.Grammar.{rules, parsedBy, parsed};
 ghost use Rattle.parser.specs.Numbers.{byteOf, digitOf, cap, spelled, Spells};
 ghost use Rattle.parser.specs.Readings.{misfit, add, readAs, judged};
-ghost use Rattle.parser.specs.Texts.{same};
+ghost use Rattle.parser.specs.Texts.{starts};
 ghost use Rattle.parser.specs.Words.{wordOf};
 
 // What stands where a line has no byte, and where it has no digit.
@@ -196,13 +196,13 @@ fn with_number(reading: Reading, value: u64) -> Reading
     next
 }
 
-// What a template finds in a line: one walk over the template, with a place in the line.
-fn read_as(line: &[u8], template: &[u8]) -> Reading
-    ensures { λ r. ⌜ r ≡ readAs (matched (now (template .entry)) (now (line .entry))) ⌝ }
+// What a template finds in a line from a place on: one walk over the template, with a place in the line.
+fn read_as(line: &[u8], from: usize, template: &[u8]) -> Reading
+    ensures { λ r. ⌜ r ≡ readAs (matched (now (template .entry)) (drop from (now (line .entry)))) ⌝ }
 {
     let mut reading = misfits();
     reading.shaped = true;
-    let mut at = 0;
+    let mut at = from;
     let mut i = 0;
     while i < template.len() {
         let byte = wide(template[i]);
@@ -227,11 +227,11 @@ fn read_as(line: &[u8], template: &[u8]) -> Reading
     reading
 }
 
-// Whether a line is a text, byte for byte: what a template without a gap asks, at less cost.
-fn is_same(line: &[u8], text: &[u8]) -> bool
-    ensures { λ r. ⌜ r ≡ same (now (text .entry)) (now (line .entry)) ⌝ }
+// Whether a line begins with a text: what a template asks up to its first gap, at less cost.
+fn starts(line: &[u8], text: &[u8]) -> bool
+    ensures { λ r. ⌜ r ≡ starts (now (text .entry)) (now (line .entry)) ⌝ }
 {
-    if line.len() != text.len() {
+    if line.len() < text.len() {
         return false;
     }
     let mut i = 0;
@@ -255,11 +255,14 @@ fn judge(reading: Reading, call: Call) -> Line
     }
 }
 
-// The forms of `rules`, those with the same second byte together.
+// The forms of `rules`, those with the same second byte together. Each is read from behind the text that it begins with.
 fn parse_open(line: &[u8]) -> Line
     ensures { λ r. ⌜ r ≡ parsedBy (take 1 rules) (now (line .entry)) ⌝ }
 {
-    let open = read_as(line, b"(open # # #)");
+    if !starts(line, b"(open ") {
+        return Line::Refused { number: 16 };
+    }
+    let open = read_as(line, 6, b"# # #)");
     if open.shaped {
         return judge(
             open,
@@ -276,7 +279,10 @@ fn parse_open(line: &[u8]) -> Line
 fn parse_join(line: &[u8]) -> Line
     ensures { λ r. ⌜ r ≡ parsedBy (take 2 (drop 1 rules)) (now (line .entry)) ⌝ }
 {
-    let private = read_as(line, b"(join # (private #))");
+    if !starts(line, b"(join ") {
+        return Line::Refused { number: 16 };
+    }
+    let private = read_as(line, 6, b"# (private #))");
     if private.shaped {
         return judge(
             private,
@@ -288,7 +294,7 @@ fn parse_join(line: &[u8]) -> Line
             },
         );
     }
-    let indifferent = read_as(line, b"(join # (indifferent # #))");
+    let indifferent = read_as(line, 6, b"# (indifferent # #))");
     if indifferent.shaped {
         return judge(
             indifferent,
@@ -306,7 +312,10 @@ fn parse_join(line: &[u8]) -> Line
 fn parse_change(line: &[u8]) -> Line
     ensures { λ r. ⌜ r ≡ parsedBy (take 2 (drop 3 rules)) (now (line .entry)) ⌝ }
 {
-    let private = read_as(line, b"(change # (private #))");
+    if !starts(line, b"(change ") {
+        return Line::Refused { number: 16 };
+    }
+    let private = read_as(line, 8, b"# (private #))");
     if private.shaped {
         return judge(
             private,
@@ -318,7 +327,7 @@ fn parse_change(line: &[u8]) -> Line
             },
         );
     }
-    let indifferent = read_as(line, b"(change # (indifferent # #))");
+    let indifferent = read_as(line, 8, b"# (indifferent # #))");
     if indifferent.shaped {
         return judge(
             indifferent,
@@ -336,11 +345,16 @@ fn parse_change(line: &[u8]) -> Line
 fn parse_leave_or_load(line: &[u8]) -> Line
     ensures { λ r. ⌜ r ≡ parsedBy (take 2 (drop 5 rules)) (now (line .entry)) ⌝ }
 {
-    let leave = read_as(line, b"(leave #)");
-    if leave.shaped {
-        return judge(leave, Call::Leave { id: leave.a });
+    if starts(line, b"(leave ") {
+        let leave = read_as(line, 7, b"#)");
+        if leave.shaped {
+            return judge(leave, Call::Leave { id: leave.a });
+        }
     }
-    let load = read_as(line, b"(load # #)");
+    if !starts(line, b"(load ") {
+        return Line::Refused { number: 16 };
+    }
+    let load = read_as(line, 6, b"# #)");
     if load.shaped {
         return judge(
             load,
@@ -356,7 +370,10 @@ fn parse_leave_or_load(line: &[u8]) -> Line
 fn parse_arrive(line: &[u8]) -> Line
     ensures { λ r. ⌜ r ≡ parsedBy (take 1 (drop 7 rules)) (now (line .entry)) ⌝ }
 {
-    let arrive = read_as(line, b"(arrive # (packet # #))");
+    if !starts(line, b"(arrive ") {
+        return Line::Refused { number: 16 };
+    }
+    let arrive = read_as(line, 8, b"# (packet # #))");
     if arrive.shaped {
         let packet = Packet {
             handle: arrive.b,
@@ -376,10 +393,13 @@ fn parse_arrive(line: &[u8]) -> Line
 fn parse_tick(line: &[u8]) -> Line
     ensures { λ r. ⌜ r ≡ parsedBy (drop 8 rules) (now (line .entry)) ⌝ }
 {
-    if is_same(line, b"(tick)") {
-        return Line::Form { call: Call::Tick };
+    if !starts(line, b"(tick)") {
+        return Line::Refused { number: 16 };
     }
-    Line::Refused { number: 16 }
+    if 6 < line.len() {
+        return Line::Refused { number: 16 };
+    }
+    Line::Form { call: Call::Tick }
 }
 
 // What a line holds: shape is judged before size (paper 01, "Script and printout"). The second byte spares a walk for each form

@@ -1,13 +1,27 @@
--- `parser::parse_open` meets its contract: where its form does not fit, the line is none of it.
+-- `parser::parse_open` meets its contract: a line that does not begin as its forms do is none of them, and else the rest of it decides.
 -- Assumes nothing.
-use mathlib.Core.Path.{sym, _∙_}
+use mathlib.Core.Path.{refl, sym, _∙_}
 use mathlib.Core.List.{[]}
+use borrow.Author.Tests.{not-true, not-false}
 use Rattle.definitions.specs.declared.Call.the-variants.{Open}
 use Rattle.grammar.specs.Grammar.{rules}
 use Rattle.parser.proofs.Forms.{no-rule, rule-fits, rule-off}
+use Rattle.parser.proofs.Texts.{plain, rule-missed, read-behind, not-begun}
 use borrow.Author.Needs.{needs}
 use Rattle.parser.proofs.parse_open.Statement.{statement}
 use Rattle.parser.proofs.parse_open.Tie as tie
+
+slice-aggregate-starts : tie.Need-slice-aggregate-starts
+slice-aggregate-starts c = search needs
+
+starts-requires : tie.Need-starts-requires
+starts-requires c κs = search needs
+
+returns : tie.Need-returns
+unfolding rules plain
+returns c =
+    let none = sym (c .before .starts .ensures) ∙ not-true _ (c .if1 .taken) in
+    sym (rule-missed _ [] _ (not-begun "(open " "# # #)" _ refl none) ∙ no-rule _)
 
 slice-aggregate-read-as : tie.Need-slice-aggregate-read-as
 slice-aggregate-read-as c = search needs
@@ -18,17 +32,26 @@ read-as-requires c κs = search needs
 judge-requires : tie.Need-judge-requires
 judge-requires c κs = search needs
 
-returns : tie.Need-returns
-unfolding rules
-returns c =
-    rule-fits (λ threshold discipline seed. Open threshold discipline seed) "(open # # #)" [] _
-    (c .before .before .read-as .ensures) (c .before .if1 .taken) (c .judge .ensures)
-
 returns-2 : tie.Need-returns-2
-unfolding rules
+unfolding rules plain
 returns-2 c =
-    sym (rule-off _ [] _ (c .before .read-as .ensures) (c .if1 .left) ∙ no-rule _)
+    let read = c .before .before in
+    let begun = read .before .before in
+    let found = read-behind "(open " "# # #)" _ refl (sym (begun .before .starts .ensures) ∙ not-false _ (begun .if1 .left))
+    (read .read-as .ensures) in
+    rule-fits (λ threshold discipline seed. Open threshold discipline seed) "(open # # #)" [] _ found (c .before .if2 .taken) (c .judge .ensures)
+
+returns-3 : tie.Need-returns-3
+unfolding rules plain
+returns-3 c =
+    let read = c .before in
+    let begun = read .before .before in
+    let found = read-behind "(open " "# # #)" _ refl (sym (begun .before .starts .ensures) ∙ not-false _ (begun .if1 .left))
+    (read .read-as .ensures) in
+    sym (rule-off _ [] _ found (c .if2 .left) ∙ no-rule _)
 
 pub parse-open-spec : {M : Type 1} → statement M
 parse-open-spec =
-    tie.close (tie.spec slice-aggregate-read-as read-as-requires judge-requires returns returns-2)
+    tie.close
+    (tie.spec slice-aggregate-starts starts-requires returns slice-aggregate-read-as read-as-requires judge-requires returns-2
+    returns-3)

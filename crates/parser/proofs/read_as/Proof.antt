@@ -22,16 +22,16 @@ use Rattle.parser.proofs.read_as.Statement.{statement}
 use Rattle.parser.proofs.read_as.Tie as tie
 
 abbrev Inv-loop : tie.InvT-loop
-Inv-loop line template reading₀ at₀ i₀ reading at i = Walked line template reading at i
+Inv-loop line from template reading₀ at₀ i₀ reading at i = Walked line from template reading at i
 
 abbrev μ-loop : tie.MeasureT-loop
-μ-loop line template reading₀ at₀ i₀ reading at i = length template - i
+μ-loop line from template reading₀ at₀ i₀ reading at i = length template - i
 
 misfits-requires : tie.Need-misfits-requires Inv-loop μ-loop
 misfits-requires c κs = search needs
 
 loop-holds : tie.Need-loop-holds Inv-loop μ-loop
-loop-holds c = rw (c .misfits .ensures) (walked-none _ _)
+loop-holds c = rw (c .misfits .ensures) (walked-none _ _ _)
 
 shared-slice-read-wide : tie.Need-shared-slice-read-wide Inv-loop μ-loop
 shared-slice-read-wide c = search needs

@@ -1,23 +1,24 @@
--- `parser::is_same` meets its contract. The invariant: the answer is that of the bytes from `i` on. Assumes nothing.
+-- `parser::starts` meets its contract. The invariant: the answer is that of the bytes from `i` on. Assumes nothing.
 use borrow.Author.Needs.{needs}
-use Prim.Native.Nat.{_-_, _≤_, _<_, zero-le}
+use Prim.Native.Nat.{ℕ, _-_, _≤_, _<_, zero-le}
 use native.Mathlib.Omega.{arith}
-use mathlib.Core.Path.{_≡_, refl, sym, ap₂, _∙_}
+use mathlib.Core.Path.{_≡_, refl, sym, ap, _∙_}
+use mathlib.Core.List.{List}
 use lib.ListN.{length, drop, drop-of-length-le}
-use Rattle.parser.specs.Texts.{same}
-use Rattle.parser.proofs.Texts.{other-length, same-here, other-here, same-none}
-use Rattle.parser.proofs.is_same.Statement.{statement}
-use Rattle.parser.proofs.is_same.Tie as tie
+use Rattle.parser.specs.Texts.{starts}
+use Rattle.parser.proofs.Texts.{too-short, same-here, other-here, starts-none}
+use Rattle.parser.proofs.starts.Statement.{statement}
+use Rattle.parser.proofs.starts.Tie as tie
 
 abbrev Inv-loop : tie.InvT-loop
 Inv-loop line text i₀ i =
-    (same text line ≡ same (drop i text) (drop i line)) × (length line ≡ length text) × (i ≤ length text)
+    (starts text line ≡ starts (drop i text) (drop i line)) × (length text ≤ length line) × (i ≤ length text)
 
 abbrev μ-loop : tie.MeasureT-loop
 μ-loop line text i₀ i = length text - i
 
 returns : tie.Need-returns Inv-loop μ-loop
-returns c = other-length (c .before .args .text .now) (c .before .args .line .now) (c .if1 .taken)
+returns c = too-short (c .before .args .text .now) (c .before .args .line .now) (c .if1 .taken)
 
 loop-holds : tie.Need-loop-holds Inv-loop μ-loop
 loop-holds c = (refl, c .if1 .left, zero-le)
@@ -60,11 +61,10 @@ returns-3 c =
     let args = c .before .before .before .args in
     let loop = c .before .loop in
     let past = drop-of-length-le (args .text .now) (c .loop-test .left) in
-    let end = drop-of-length-le (args .line .now) {i = loop .i} (omega (arith, loop .inv .1, c .loop-test .left)) in
-    sym (loop .inv .0 ∙ ap₂ same past end ∙ same-none)
+    sym (loop .inv .0 ∙ ap (λ (rest : List ℕ). starts rest (drop (loop .i) (args .line .now))) past ∙ starts-none _)
 
-pub is-same-spec : {M : Type 1} → statement M
-is-same-spec =
+pub starts-spec : {M : Type 1} → statement M
+starts-spec =
     tie.close
     (tie.spec Inv-loop μ-loop returns loop-holds shared-slice-read-if2 shared-slice-read-if2-2 returns-2 add-i loop-less
     loop-again returns-3)
