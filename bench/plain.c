@@ -1,4 +1,4 @@
-/* The slot core of paper 01 in plain C. Nothing is on the heap, and every call but join, change
+/* The slot core of paper 01, with S-1 of paper 02, in plain C. Nothing is on the heap, and every call but join, change
    and leave takes constant time, besides one walk over marks in a draw and one in the refill. */
 #include "plain.h"
 

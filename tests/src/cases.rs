@@ -1,4 +1,4 @@
-//! `cases SLOTS FILE..`: scripts beside the lines that paper 01 gives for them, and whole texts round the limit of 60,000 bytes.
+//! `cases SLOTS FILE..`: scripts beside the lines that the papers give for them, and whole texts round the limit of 60,000 bytes.
 //! The program under test and the second program are both held to what is written down.
 //!
 //! A line of a file is `LINE => ANSWER`, `N times LINE => ANSWER`, `LINE ~> ANSWER` (the last line of the text, without its line

@@ -1,4 +1,4 @@
--- Small facts of the definitions, each in words of paper 01: on the tick, on changes, on the order of the checks, on refusals.
+-- Small facts of the definitions, each in words of the papers: on the tick, on changes, on the order of the checks, on refusals.
 -- Each holds by opening the definitions and putting in what is given; the laws that they share stand in Laws.
 use Prim.Native.Nat.{ℕ, _+_, _-_, _*_, _≤_, _<_, min}
 use mathlib.Core.Path.{_≡_, refl, sym, fun-ext}

@@ -5,7 +5,7 @@ pub mod Laws
 pub mod Sample
 pub mod Draw
 pub mod Evenness
--- small facts, and the cases of the paper
+-- small facts, and the cases of the papers
 pub mod Everything
 pub mod Facts
 pub mod Cases

@@ -1,5 +1,5 @@
 -- Laws of the sample. The span is what is left of all values without the remainder; the target lies below the sum; the
--- generator is stepped once and at most once more for each throw. By induction on the throws that are left. Assumes nothing.
+-- generator is stepped once, and once more for each throw, of which there are at most eight. By induction on the throws that are left. Assumes nothing.
 use Prim.Native.Nat.{ℕ, zero, suc, _+_, _-_, _/_, _%_, _^_, _≤_, _<_}
 use mathlib.Core.Path.{_≡_, refl}
 use mathlib.Core.Bool.{Bool, true, false, not}

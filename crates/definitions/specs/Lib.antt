@@ -1,5 +1,5 @@
 -- What the slot core means. The modules stand in the order in which a reader needs them; each opens with the words of
--- paper 01 that it stands for. No proof stands in this folder: ../proofs has them.
+-- the papers that it stands for. No proof stands in this folder: ../proofs has them.
 
 -- the numbers that a later edition may change
 pub mod Sizes

@@ -24,8 +24,8 @@ pub struct Sample {
     pub steps: u32,
 }
 
-// Whether a value is below the largest multiple of a total. It is, if the total has room above it, which nearly always spares the
-// division.
+// Whether a value counts: it is below the largest multiple of the total that is at most 2^32. It is, where the total fits between it
+// and 2^32; that nearly always spares the division.
 fn counts(value: u32, total: u64) -> bool
     ensures { λ r. ⌜ r ≡ ltb value (evenSpan total) ⌝ }
 {
@@ -59,7 +59,8 @@ fn remainder(value: u32, total: u64) -> u32
     (tables::wide(value) % total) as u32
 }
 
-// A target below the total, with even odds: values that would favour low targets are thrown away.
+// A target below the total, with even odds (paper 02, S-1): a value not below the largest multiple is thrown away, at most eight in
+// one draw. For a total of 0 all eight are, and the ninth value is the target.
 pub fn sample_below(total: u64, generator: Generator) -> Sample
     ensures { λ r. ⌜ Same-sample r (sample total (generator .value)) ⌝ }
 {

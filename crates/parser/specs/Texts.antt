@@ -1,4 +1,5 @@
--- A line that begins with a text, byte for byte: what stands in a form before its first number (paper 01, "Script and printout").
+-- A line that begins with a text, byte for byte: what stands in a form before its first number, and a
+-- tick's whole form (paper 01, "Script and printout").
 use Prim.Native.Nat.{ℕ}
 use mathlib.Core.Bool.{Bool, true, false, _&&_}
 use mathlib.Core.List.{List, [], _∷_}

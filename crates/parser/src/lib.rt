@@ -1,5 +1,6 @@
 // Reads one line of the script: any bytes, any number of them. The grammar that it reads by is `parsed` of crate grammar.
-// One matcher walks a template in which # stands for a number; a form is a template and the call that its numbers make.
+// A form is the text that it begins with, a template for the rest, in which # stands for a number, and the call that the numbers
+// make. One matcher walks the templates.
 use definitions::Call;
 use definitions::INDIFFERENT;
 use definitions::PRIVATE;
@@ -19,6 +20,9 @@ ghost use Rattle.parser.specs.Words.{wordOf};
 const NO_BYTE: u64 = 256;
 
 const NO_DIGIT: u64 = 10;
+
+// What a line is answered with that holds no form.
+const NO_FORM: u32 = 16;
 
 // The largest number that a form may have; one above it stands for any that is larger.
 const LIMIT: u64 = 4294967295;
@@ -255,12 +259,13 @@ fn judge(reading: Reading, call: Call) -> Line
     }
 }
 
-// The forms of `rules`, those with the same second byte together. Each is read from behind the text that it begins with.
+// The forms of `rules`, those with the same second byte together. Each is read from behind the text that it begins with: the number
+// handed to `read_as` is that text's length.
 fn parse_open(line: &[u8]) -> Line
     ensures { λ r. ⌜ r ≡ parsedBy (take 1 rules) (now (line .entry)) ⌝ }
 {
     if !starts(line, b"(open ") {
-        return Line::Refused { number: 16 };
+        return Line::Refused { number: NO_FORM };
     }
     let open = read_as(line, 6, b"# # #)");
     if open.shaped {
@@ -273,14 +278,14 @@ fn parse_open(line: &[u8]) -> Line
             },
         );
     }
-    Line::Refused { number: 16 }
+    Line::Refused { number: NO_FORM }
 }
 
 fn parse_join(line: &[u8]) -> Line
     ensures { λ r. ⌜ r ≡ parsedBy (take 2 (drop 1 rules)) (now (line .entry)) ⌝ }
 {
     if !starts(line, b"(join ") {
-        return Line::Refused { number: 16 };
+        return Line::Refused { number: NO_FORM };
     }
     let private = read_as(line, 6, b"# (private #))");
     if private.shaped {
@@ -306,14 +311,14 @@ fn parse_join(line: &[u8]) -> Line
             },
         );
     }
-    Line::Refused { number: 16 }
+    Line::Refused { number: NO_FORM }
 }
 
 fn parse_change(line: &[u8]) -> Line
     ensures { λ r. ⌜ r ≡ parsedBy (take 2 (drop 3 rules)) (now (line .entry)) ⌝ }
 {
     if !starts(line, b"(change ") {
-        return Line::Refused { number: 16 };
+        return Line::Refused { number: NO_FORM };
     }
     let private = read_as(line, 8, b"# (private #))");
     if private.shaped {
@@ -339,7 +344,7 @@ fn parse_change(line: &[u8]) -> Line
             },
         );
     }
-    Line::Refused { number: 16 }
+    Line::Refused { number: NO_FORM }
 }
 
 fn parse_leave_or_load(line: &[u8]) -> Line
@@ -352,7 +357,7 @@ fn parse_leave_or_load(line: &[u8]) -> Line
         }
     }
     if !starts(line, b"(load ") {
-        return Line::Refused { number: 16 };
+        return Line::Refused { number: NO_FORM };
     }
     let load = read_as(line, 6, b"# #)");
     if load.shaped {
@@ -364,14 +369,14 @@ fn parse_leave_or_load(line: &[u8]) -> Line
             },
         );
     }
-    Line::Refused { number: 16 }
+    Line::Refused { number: NO_FORM }
 }
 
 fn parse_arrive(line: &[u8]) -> Line
     ensures { λ r. ⌜ r ≡ parsedBy (take 1 (drop 7 rules)) (now (line .entry)) ⌝ }
 {
     if !starts(line, b"(arrive ") {
-        return Line::Refused { number: 16 };
+        return Line::Refused { number: NO_FORM };
     }
     let arrive = read_as(line, 8, b"# (packet # #))");
     if arrive.shaped {
@@ -387,17 +392,17 @@ fn parse_arrive(line: &[u8]) -> Line
             },
         );
     }
-    Line::Refused { number: 16 }
+    Line::Refused { number: NO_FORM }
 }
 
 fn parse_tick(line: &[u8]) -> Line
     ensures { λ r. ⌜ r ≡ parsedBy (drop 8 rules) (now (line .entry)) ⌝ }
 {
     if !starts(line, b"(tick)") {
-        return Line::Refused { number: 16 };
+        return Line::Refused { number: NO_FORM };
     }
     if 6 < line.len() {
-        return Line::Refused { number: 16 };
+        return Line::Refused { number: NO_FORM };
     }
     Line::Form { call: Call::Tick }
 }
@@ -415,6 +420,6 @@ pub fn parse(line: &[u8]) -> Line
         LEAVE_OR_LOAD => parse_leave_or_load(line),
         ARRIVE => parse_arrive(line),
         TICK => parse_tick(line),
-        _ => Line::Refused { number: 16 },
+        _ => Line::Refused { number: NO_FORM },
     }
 }

@@ -137,7 +137,7 @@ pub fn print_refused(out: &mut [u8], at: usize, number: u32) -> usize
     put_between(out, at, b"(refused ", number, b")\n")
 }
 
-// Writes the line of an answer in the same way.
+// Writes the line of an answer from a place on; places and room are those of `print_refused`.
 pub fn print(out: &mut [u8], at: usize, answer: Answer) -> usize
     ensures { λ r. ⌜ Printed answer (now (out .entry)) at (now (out .exit)) r ⌝ }
 {

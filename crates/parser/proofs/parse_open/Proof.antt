@@ -1,4 +1,4 @@
--- `parser::parse_open` meets its contract: a line that does not begin as its forms do is none of them, and else the rest of it decides.
+-- `parser::parse_open` meets its contract: a line that does not begin as its form does is none of it, and else the rest of it decides.
 -- Assumes nothing.
 use mathlib.Core.Path.{refl, sym, _∙_}
 use mathlib.Core.List.{[]}
