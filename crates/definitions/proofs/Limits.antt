@@ -9,8 +9,7 @@ use Rattle.definitions.specs.declared.Call.{Call}
 use Rattle.definitions.specs.declared.Call.the-variants.{Open, Join, Change, Leave, Load, Arrive, Tick}
 use Rattle.definitions.specs.State.{Core, unopened, running}
 use Rattle.definitions.specs.Core.{step}
-use Rattle.definitions.specs.History.{start, _then_, scheduler}
-use Rattle.definitions.specs.Sameness.{after}
+use Rattle.definitions.specs.History.{start, _then_, scheduler, after}
 use Rattle.definitions.specs.Limits.{CoreLimits, Limits}
 use Rattle.definitions.proofs.Limits.Calls.{open-limits, join-limits, change-limits, leave-limits, load-limits, arrive-limits}
 use Rattle.definitions.proofs.Limits.Slots.{tick-limits}

@@ -1,13 +1,14 @@
 -- Histories: lists of the seven calls with any arguments, refused ones included, from an unopened core
--- (paper 01, "Two histories").
+-- (paper 01, "Two histories"). A history says what is called; a trace says what was called and what it got.
 use Prim.Native.Nat.{ℕ, suc}
 use mathlib.Core.List.{List}
 use Rattle.definitions.specs.declared.Packet.{Packet}
 use Rattle.definitions.specs.declared.Call.{Call}
 use Rattle.definitions.specs.declared.Answer.{Answer}
 use Rattle.definitions.specs.Client.{Client, nobody}
-use Rattle.definitions.specs.State.{Core, unopened, running}
-use Rattle.definitions.specs.Tick.{Rule, rule1, rule2, rule3, turn}
+use Rattle.definitions.specs.State.{State, Core, unopened, running}
+use Rattle.definitions.specs.Checks.{Result}
+use Rattle.definitions.specs.Tick.{Rule, rule1, rule2, rule3, Turn, turn}
 use Rattle.definitions.specs.Core.{step}
 
 infixl 20 _then_
@@ -31,6 +32,23 @@ pub data Pick : Type 0 where
   byRule2 : ℕ → Pick
   byRule3 : Pick
 
+-- a call that was made: what it got and, of a tick, whom its slot picked
+pub record Dealing : Type 0 where
+  pub call : Call
+  pub answer : Answer
+  pub pick : Pick
+
+infixl 20 _and_
+pub data Trace : Type 0 where
+  begin : Trace
+  _and_ : Trace → Dealing → Trace
+
+-- "Queue (handles and lengths from the front), pool and bucket (the level)", of each id
+pub record Holdings : Type 0 where
+  pub queue : ℕ → List Packet
+  pub pool : ℕ → ℕ
+  pub level : ℕ → ℕ
+
 -- What can be seen of a scheduler. The claims are about any scheduler; the one that the calls define is `scheduler`.
 pub record Scheduler : Type 1 where
   pub Inside : Type 0
@@ -38,9 +56,25 @@ pub record Scheduler : Type 1 where
   pub answer : Inside → Call → Answer
   pub next : Inside → Call → Inside
   pub pick : Inside → Pick
-  pub queue : Inside → ℕ → List Packet
-  pub pool : Inside → ℕ → ℕ
-  pub level : Inside → ℕ → ℕ
+  pub holdings : Inside → Holdings
+
+module _ (S : Scheduler) where
+  -- the core after a history
+  unfoldable pub after : History → S .Inside
+  after start = S .unopenedCore
+  after (h then c) = S .next (after h) c
+
+  -- what a call gets at a place
+  unfoldable pub answerAt : History → Call → Answer
+  answerAt h c = S .answer (after h) c
+
+  unfoldable pub dealingAt : History → Call → Dealing
+  dealingAt h c = record { call = c; answer = answerAt h c; pick = S .pick (after h) }
+
+  -- a history with what its calls get
+  unfoldable pub traceOf : History → Trace
+  traceOf start = begin
+  traceOf (h then c) = traceOf h and dealingAt h c
 
 unfoldable pub clientOf : Core → ℕ → Client
 clientOf unopened id = nobody
@@ -55,18 +89,30 @@ pickBy rule1 id = byRule1
 pickBy rule2 id = byRule2 id
 pickBy rule3 id = byRule3
 
-unfoldable pub pickOf : Core → Pick
-pickOf unopened = noSlot
-pickOf (running s) = pickBy (turn s .rule) (turn s .id)
+abbrev pub pickIn : (State → Turn) → Core → Pick
+pickIn turnOf unopened = noSlot
+pickIn turnOf (running s) = pickBy (turnOf s .rule) (turnOf s .id)
 
-abbrev pub scheduler : Scheduler
-scheduler = record {
+unfoldable pub pickOf : Core → Pick
+pickOf = pickIn turn
+
+unfoldable pub holdingsOf : Core → Holdings
+holdingsOf core = record {
+  queue = λ id. clientOf core id .queue;
+  pool = λ id. clientOf core id .pool;
+  level = λ id. clientOf core id .level;
+}
+
+-- a scheduler with a core inside: what it makes of a call, and whom its slots pick
+abbrev pub schedulerBy : (Core → Call → Result) → (Core → Pick) → Scheduler
+schedulerBy act pick = record {
   Inside = Core;
   unopenedCore = unopened;
-  answer = λ core c. step core c .answer;
-  next = λ core c. step core c .core;
-  pick = pickOf;
-  queue = λ core id. clientOf core id .queue;
-  pool = λ core id. clientOf core id .pool;
-  level = λ core id. clientOf core id .level;
+  answer = λ core c. act core c .answer;
+  next = λ core c. act core c .core;
+  pick = pick;
+  holdings = holdingsOf;
 }
+
+abbrev pub scheduler : Scheduler
+scheduler = schedulerBy step pickOf

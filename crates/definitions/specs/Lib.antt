@@ -23,3 +23,6 @@ pub mod Limits
 pub mod Bound
 pub mod Evenness
 pub mod Cases
+-- what the claims rule out
+pub mod Altered
+pub mod Leaks

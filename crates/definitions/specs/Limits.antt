@@ -10,8 +10,7 @@ use Rattle.definitions.specs.Sizes.{ids, places, poolLimit, shares, burs
 use Rattle.definitions.specs.Client.{Kind, absent, indifferent, private, Client, nobody, isIndifferent}
 use Rattle.definitions.specs.State.{State, Core, unopened, running}
 use Rattle.definitions.specs.Checks.{rates}
-use Rattle.definitions.specs.History.{History, scheduler}
-use Rattle.definitions.specs.Sameness.{after}
+use Rattle.definitions.specs.History.{History, scheduler, after}
 
 -- "length outside 64..1518" never waits
 abbrev pub LengthsFit : List Packet → Type 0

@@ -1,5 +1,6 @@
 -- Demand 3 (paper 01, "Two histories"): what the chosen client and every indifferent one see is the same in any two
--- histories whose kept calls are equal. `Sameness` is the claim, of any scheduler; the words of the paper stand beside it.
+-- histories whose kept calls are equal. What is kept and what is compared is read off two traces, whoever made them;
+-- `Sameness` is the claim of any scheduler. The words of the paper stand beside each.
 use Prim.Native.Nat.{ℕ}
 use mathlib.Core.Path.{_≡_}
 use mathlib.Core.Bool.{Bool, true, false, cond, not, _&&_, _||_}
@@ -10,7 +11,7 @@ use Rattle.definitions.specs.declared.Call.the-variants.{Open, Join, Cha
 use Rattle.definitions.specs.declared.Answer.{Answer}
 use Rattle.definitions.specs.Sizes.{indifferentType}
 use Rattle.definitions.specs.Answers.{number, isAccepted, isDeparture}
-use Rattle.definitions.specs.History.{History, start, _then_, Place, calls, Scheduler}
+use Rattle.definitions.specs.History.{History, start, _then_, Place, calls, Dealing, Trace, begin, _and_, Holdings, Scheduler, after, answerAt, traceOf}
 
 -- the calls that set a client or the core up: open, join, change and leave
 unfoldable pub isSetting : Call → Bool
@@ -60,101 +61,97 @@ indifferentBy id (Load other dummies) was = was
 indifferentBy id (Arrive other packet) was = was
 indifferentBy id Tick was = was
 
+-- "An id is indifferent there if, since the last accepted open before it, its last accepted join or change gave type 1
+-- and no accepted leave of it came later."
+unfoldable pub indifferentAt : ℕ → Trace → Bool
+indifferentAt id begin = false
+indifferentAt id (t and d) = cond (isAccepted (d .answer)) (indifferentBy id (d .call) (indifferentAt id t)) (indifferentAt id t)
+
+-- "Struck out are the arrives and loads naming another id that is not indifferent at their place, an inactive one or one
+-- above 63 too."
+unfoldable pub isStruck : ℕ → Trace → Call → Bool
+isStruck chosen t (Open threshold discipline seed) = false
+isStruck chosen t (Join id type rate burst) = false
+isStruck chosen t (Change id type rate burst) = false
+isStruck chosen t (Leave id) = false
+isStruck chosen t (Load id dummies) = not (eqb id chosen) && not (indifferentAt id t)
+isStruck chosen t (Arrive id packet) = not (eqb id chosen) && not (indifferentAt id t)
+isStruck chosen t Tick = false
+
+-- "All other calls are kept": the history of the kept calls.
+unfoldable pub kept : ℕ → Trace → History
+kept chosen begin = start
+kept chosen (t and d) = cond (isStruck chosen t (d .call)) (kept chosen t) (kept chosen t then d .call)
+
+-- What some calls of a trace show, latest first, each with its number among the kept calls: "the n-th kept call of one
+-- history is compared with the n-th of the other".
+unfoldable pub log : {A : Type 0} → ℕ → (Trace → Dealing → Bool) → (Dealing → A) → Trace → List (ℕ × A)
+log chosen which shows begin = []
+log chosen which shows (t and d) =
+    cond (which t d) ((calls (kept chosen t), shows d) ∷ log chosen which shows t) (log chosen which shows t)
+
+-- "its departures the slots whose outcome bears its id, with that outcome and the tick's number among the kept calls"
+unfoldable pub departure : ℕ → Dealing → Bool
+departure id d = isTick (d .call) && isDeparture id (d .answer)
+
+-- "its drops its arrivals answered 14 or 15"
+unfoldable pub drop : ℕ → Dealing → Bool
+drop id d = names id (d .call) && (isArrival (d .call) && (eqb (number (d .answer)) 14 || eqb (number (d .answer)) 15))
+
+-- the answers of those dealings that are logged
+abbrev pub answersOf : ℕ → (Trace → Dealing → Bool) → Trace → List (ℕ × Answer)
+answersOf chosen which = log chosen which (λ d. d .answer)
+
+-- one client's answers, departures and drops, at those places where `when` holds
+pub record SameDealings (chosen id : ℕ) (when : Trace → Bool) (t u : Trace) : Type 0 where
+  -- "A client's answers are what its own calls get, accepted or the number"
+  pub answers : answersOf chosen (λ p d. when p && names id (d .call)) t ≡ answersOf chosen (λ p d. when p && names id (d .call)) u
+  pub departures : answersOf chosen (λ p d. when p && departure id d) t ≡ answersOf chosen (λ p d. when p && departure id d) u
+  pub drops : answersOf chosen (λ p d. when p && drop id d) t ≡ answersOf chosen (λ p d. when p && drop id d) u
+
+-- "Queue (handles and lengths from the front), pool and bucket (the level)"
+pub record SameHoldings (id : ℕ) (x y : Holdings) : Type 0 where
+  pub queue : x .queue id ≡ y .queue id
+  pub pool : x .pool id ≡ y .pool id
+  pub level : x .level id ≡ y .level id
+
+-- what is compared at two places: behind one is the trace t, and the core there holds x; behind the other u and y
+pub record LooksSame (chosen : ℕ) (t : Trace) (x : Holdings) (u : Trace) (y : Holdings) : Type 0 where
+  -- "the answers to its joins, changes and leaves", and those to every open
+  pub settings : answersOf chosen (λ p d. isSetting (d .call)) t ≡ answersOf chosen (λ p d. isSetting (d .call)) u
+  -- every slot's rule, "and the picks under rule 2"
+  pub slots : log chosen (λ p d. isTick (d .call)) (λ d. d .pick) t ≡ log chosen (λ p d. isTick (d .call)) (λ d. d .pick) u
+  -- the chosen client, active or not
+  pub chosenDealings : SameDealings chosen chosen (λ p. true) t u
+  pub chosenHoldings : SameHoldings chosen x y
+  -- "Of any client but the chosen one .. only those answers, departures and drops are compared at whose place it is
+  -- indifferent; what else it got or sent while private is not."
+  pub indifferentAlike : (id : ℕ) → indifferentAt id t ≡ indifferentAt id u
+  pub indifferentDealings : (id : ℕ) → SameDealings chosen id (indifferentAt id) t u
+  pub indifferentHoldings : (id : ℕ) → T (indifferentAt id t) → SameHoldings id x y
+
+-- the opens, joins, changes and leaves of a history
+unfoldable pub settingsOf : History → History
+settingsOf start = start
+settingsOf (h then c) = cond (isSetting c) (settingsOf h then c) (settingsOf h)
+
 module _ (S : Scheduler) where
-  -- the core after a history
-  unfoldable pub after : History → S .Inside
-  after start = S .unopenedCore
-  after (h then c) = S .next (after h) c
-
-  -- what a call gets at a place
-  unfoldable pub answerAt : History → Call → Answer
-  answerAt h c = S .answer (after h) c
-
-  -- "An id is indifferent there if, since the last accepted open before it, its last accepted join or change gave type 1
-  -- and no accepted leave of it came later."
-  unfoldable pub indifferentAt : ℕ → History → Bool
-  indifferentAt id start = false
-  indifferentAt id (h then c) = cond (isAccepted (answerAt h c)) (indifferentBy id c (indifferentAt id h)) (indifferentAt id h)
-
-  -- "Struck out are the arrives and loads naming another id that is not indifferent at their place, an inactive one or one
-  -- above 63 too."
-  unfoldable pub isStruck : ℕ → History → Call → Bool
-  isStruck chosen h (Open threshold discipline seed) = false
-  isStruck chosen h (Join id type rate burst) = false
-  isStruck chosen h (Change id type rate burst) = false
-  isStruck chosen h (Leave id) = false
-  isStruck chosen h (Load id dummies) = not (eqb id chosen) && not (indifferentAt id h)
-  isStruck chosen h (Arrive id packet) = not (eqb id chosen) && not (indifferentAt id h)
-  isStruck chosen h Tick = false
-
-  -- "All other calls are kept": the history of the kept calls.
-  unfoldable pub kept : ℕ → History → History
-  kept chosen start = start
-  kept chosen (h then c) = cond (isStruck chosen h c) (kept chosen h) (kept chosen h then c)
-
-  -- What some calls of a history show, latest first, each with its number among the kept calls: "the n-th kept call of one
-  -- history is compared with the n-th of the other".
-  unfoldable pub log : {A : Type 0} → ℕ → (History → Call → Bool) → (History → Call → A) → History → List (ℕ × A)
-  log chosen which shows start = []
-  log chosen which shows (h then c) =
-      cond (which h c) ((calls (kept chosen h), shows h c) ∷ log chosen which shows h) (log chosen which shows h)
-
-  -- "its departures the slots whose outcome bears its id, with that outcome and the tick's number among the kept calls"
-  unfoldable pub departure : ℕ → History → Call → Bool
-  departure id h c = isTick c && isDeparture id (answerAt h c)
-
-  -- "its drops its arrivals answered 14 or 15"
-  unfoldable pub drop : ℕ → History → Call → Bool
-  drop id h c = names id c && (isArrival c && (eqb (number (answerAt h c)) 14 || eqb (number (answerAt h c)) 15))
-
-  -- one client's answers, departures and drops, at those places where `when` holds
-  pub record SameDealings (chosen id : ℕ) (when : History → Bool) (h k : History) : Type 0 where
-    -- "A client's answers are what its own calls get, accepted or the number"
-    pub answers : log chosen (λ p c. when p && names id c) answerAt h ≡ log chosen (λ p c. when p && names id c) answerAt k
-    pub departures : log chosen (λ p c. when p && departure id p c) answerAt h ≡ log chosen (λ p c. when p && departure id p c) answerAt k
-    pub drops : log chosen (λ p c. when p && drop id p c) answerAt h ≡ log chosen (λ p c. when p && drop id p c) answerAt k
-
-  -- "Queue (handles and lengths from the front), pool and bucket (the level)"
-  pub record SameHoldings (id : ℕ) (h k : History) : Type 0 where
-    pub queue : S .queue (after h) id ≡ S .queue (after k) id
-    pub pool : S .pool (after h) id ≡ S .pool (after k) id
-    pub level : S .level (after h) id ≡ S .level (after k) id
-
-  -- what is compared at a place of one history and a place of the other
-  pub record LooksSame (chosen : ℕ) (h k : History) : Type 0 where
-    -- "the answers to its joins, changes and leaves", and those to every open
-    pub settings : log chosen (λ p c. isSetting c) answerAt h ≡ log chosen (λ p c. isSetting c) answerAt k
-    -- every slot's rule, "and the picks under rule 2"
-    pub slots : log chosen (λ p c. isTick c) (λ p c. S .pick (after p)) h ≡ log chosen (λ p c. isTick c) (λ p c. S .pick (after p)) k
-    -- the chosen client, active or not
-    pub chosenDealings : SameDealings chosen chosen (λ p. true) h k
-    pub chosenHoldings : SameHoldings chosen h k
-    -- "Of any client but the chosen one .. only those answers, departures and drops are compared at whose place it is
-    -- indifferent; what else it got or sent while private is not."
-    pub indifferentAlike : (id : ℕ) → indifferentAt id h ≡ indifferentAt id k
-    pub indifferentDealings : (id : ℕ) → SameDealings chosen id (indifferentAt id) h k
-    pub indifferentHoldings : (id : ℕ) → T (indifferentAt id h) → SameHoldings id h k
-
   -- Any chosen client, any two histories whose kept calls "agree in order and arguments", and any place of either at which
   -- both have as many kept calls behind them.
   unfoldable pub Sameness : Type 0
   Sameness =
       (chosen : ℕ) (H K : History)
-      → kept chosen H ≡ kept chosen K
+      → kept chosen (traceOf S H) ≡ kept chosen (traceOf S K)
       → (h k : History)
       → Place h H
       → Place k K
-      → calls (kept chosen h) ≡ calls (kept chosen k)
-      → LooksSame chosen h k
+      → calls (kept chosen (traceOf S h)) ≡ calls (kept chosen (traceOf S k))
+      → LooksSame chosen (traceOf S h) (S .holdings (after S h)) (traceOf S k) (S .holdings (after S k))
 
-  -- the opens, joins, changes and leaves of a history, and what they get, latest first
-  unfoldable pub settingsOf : History → History
-  settingsOf start = start
-  settingsOf (h then c) = cond (isSetting c) (settingsOf h then c) (settingsOf h)
-
+  -- and what they get, latest first
   unfoldable pub settingAnswers : History → List Answer
   settingAnswers start = []
-  settingAnswers (h then c) = cond (isSetting c) (answerAt h c ∷ settingAnswers h) (settingAnswers h)
+  settingAnswers (h then c) = cond (isSetting c) (answerAt S h c ∷ settingAnswers h) (settingAnswers h)
 
   -- "Which opens, joins, changes and leaves are accepted follows from these four alone."
   unfoldable pub SettingsAlone : Type 0

@@ -13,14 +13,14 @@ use Rattle.definitions.specs.State.{Core, unopened, running}
 use Rattle.definitions.specs.Answers.{isDeparture}
 use Rattle.definitions.specs.Tick.{Turn}
 use Rattle.definitions.specs.Core.{step}
-use Rattle.definitions.specs.History.{History, start, _then_, calls, pickBy, pickOf, clientOf, scheduler}
-use Rattle.definitions.specs.Sameness.{isTick, after, answerAt, indifferentAt, isStruck, kept, log}
+use Rattle.definitions.specs.History.{History, start, _then_, calls, pickBy, pickOf, clientOf, Dealing, Trace, scheduler, after, answerAt, dealingAt, traceOf}
+use Rattle.definitions.specs.Sameness.{isTick, indifferentAt, isStruck, kept, log}
 use borrow.Author.Tests.{not-true}
 use Rattle.definitions.proofs.Laws.Tests.{true-false, and-both}
 use Rattle.definitions.proofs.Sameness.Erase.{hidden, hidden-kind, hideIf, hide, hide-open, erase, eraseCore}
 use Rattle.definitions.proofs.Sameness.Calls.{Alike, open-alike, join-alike, change-alike, leave-alike, load-alike, arrive-alike, load-struck, arrive-struck}
 use Rattle.definitions.proofs.Sameness.Slot.{turn-erased, tick-departure, tick-answer, tick-cores}
-use Rattle.definitions.proofs.Sameness.Kinds.{holdsIndifferent, indifferent-held}
+use Rattle.definitions.proofs.Sameness.Kinds.{trace, dealt, holdsIndifferent, indifferent-held}
 
 module _ (chosen : ℕ) where
   -- the client that a load or an arrival names is not hidden
@@ -69,7 +69,7 @@ module _ (chosen : ℕ) where
   -- histories whose cores are erased alike, and whose kept calls are the same
   pub record AlikeAt (h k : History) : Type 0 where
     pub cores : eraseCore chosen (after scheduler h) ≡ eraseCore chosen (after scheduler k)
-    pub keeps : kept scheduler chosen h ≡ kept scheduler chosen k
+    pub keeps : kept chosen (trace h) ≡ kept chosen (trace k)
 
   erase-kind : (core : Core) (id : ℕ) → clientOf (eraseCore chosen core) id .kind ≡ clientOf core id .kind
   unfolding eraseCore clientOf erase hide hideIf
@@ -82,12 +82,12 @@ module _ (chosen : ℕ) where
       ∙ ap (λ (z : Core). clientOf z id .kind) (a .cores)
       ∙ erase-kind (after scheduler k) id
 
-  pub alike-indifferent : {h k : History} → AlikeAt h k → (id : ℕ) → indifferentAt scheduler id h ≡ indifferentAt scheduler id k
+  pub alike-indifferent : {h k : History} → AlikeAt h k → (id : ℕ) → indifferentAt id (trace h) ≡ indifferentAt id (trace k)
   unfolding holdsIndifferent
   alike-indifferent {h} {k} a id =
       indifferent-held id h ∙ ap isIndifferent (alike-kind a id) ∙ sym (indifferent-held id k)
 
-  alike-struck : {h k : History} → AlikeAt h k → (c : Call) → isStruck scheduler chosen h c ≡ isStruck scheduler chosen k c
+  alike-struck : {h k : History} → AlikeAt h k → (c : Call) → isStruck chosen (trace h) c ≡ isStruck chosen (trace k) c
   unfolding isStruck
   alike-struck a (Open t d v) = refl
   alike-struck a (Join j k r b) = refl
@@ -100,16 +100,16 @@ module _ (chosen : ℕ) where
   -- ---- what is struck out
 
   -- the id that a struck-out call names
-  struck-apart : (h : History) (j : ℕ) → not (eqb j chosen) && not (indifferentAt scheduler j h) ≡ true
+  struck-apart : (h : History) (j : ℕ) → not (eqb j chosen) && not (indifferentAt j (trace h)) ≡ true
       → (eqb j chosen ≡ false) × (holdsIndifferent j (after scheduler h) ≡ false)
   struck-apart h j e = (
-    not-true (eqb j chosen) (and-both (not (eqb j chosen)) (not (indifferentAt scheduler j h)) e .0),
+    not-true (eqb j chosen) (and-both (not (eqb j chosen)) (not (indifferentAt j (trace h))) e .0),
     sym (indifferent-held j h)
-        ∙ not-true (indifferentAt scheduler j h) (and-both (not (eqb j chosen)) (not (indifferentAt scheduler j h)) e .1),
+        ∙ not-true (indifferentAt j (trace h)) (and-both (not (eqb j chosen)) (not (indifferentAt j (trace h))) e .1),
   )
 
   -- a struck-out call changes nothing that is not erased
-  struck-erased : (h : History) (c : Call) → isStruck scheduler chosen h c ≡ true
+  struck-erased : (h : History) (c : Call) → isStruck chosen (trace h) c ≡ true
       → eraseCore chosen (step (after scheduler h) c .core) ≡ eraseCore chosen (after scheduler h)
   unfolding isStruck step eraseCore clientOf holdsIndifferent
   struck-erased h (Open t d v) e = true-false e refl
@@ -142,7 +142,7 @@ module _ (chosen : ℕ) where
       go private false e = e
 
   -- a kept load or arrival names a client that is not hidden
-  kept-seen : (h : History) (c : Call) → isStruck scheduler chosen h c ≡ false → Seen (after scheduler h) c
+  kept-seen : (h : History) (c : Call) → isStruck chosen (trace h) c ≡ false → Seen (after scheduler h) c
   unfolding isStruck holdsIndifferent
   kept-seen h (Open t d v) e = tt
   kept-seen h (Join j k r b) e = tt
@@ -154,21 +154,23 @@ module _ (chosen : ℕ) where
 
   -- ---- a history and its kept calls
 
-  kept-alike : (h : History) → AlikeAt h (kept scheduler chosen h)
-  unfolding kept after
+  kept-alike : (h : History) → AlikeAt h (kept chosen (trace h))
+  unfolding kept after traceOf dealingAt
   kept-alike start = record { cores = refl; keeps = refl }
-  kept-alike (h then c) = go (isStruck scheduler chosen h c) refl (kept-alike h)
+  kept-alike (h then c) = go (isStruck chosen (trace h) c) refl (kept-alike h)
     where
-      go : (b : Bool) → isStruck scheduler chosen h c ≡ b → AlikeAt h (kept scheduler chosen h)
-          → AlikeAt (h then c) (cond b (kept scheduler chosen h) (kept scheduler chosen h then c))
+      K : History
+      K = kept chosen (trace h)
+
+      go : (b : Bool) → isStruck chosen (trace h) c ≡ b → AlikeAt h K → AlikeAt (h then c) (cond b K (K then c))
       go true e a = record { cores = struck-erased h c e ∙ a .cores; keeps = rw e (a .keeps) }
       go false e a = record {
-        cores = step-alike (after scheduler h) (after scheduler (kept scheduler chosen h)) c (a .cores) (kept-seen h c e)
-            (kept-seen (kept scheduler chosen h) c (sym (alike-struck a c) ∙ e)) .cores;
+        cores = step-alike (after scheduler h) (after scheduler K) c (a .cores) (kept-seen h c e)
+            (kept-seen K c (sym (alike-struck a c) ∙ e)) .cores;
         keeps = rw (e, sym (alike-struck a c) ∙ e) (ap (λ (k : History). k then c) (a .keeps));
       }
 
-  pub alike-through : (h k : History) → kept scheduler chosen h ≡ kept scheduler chosen k → AlikeAt h k
+  pub alike-through : (h k : History) → kept chosen (trace h) ≡ kept chosen (trace k) → AlikeAt h k
   alike-through h k e = record {
     cores =
         kept-alike h .cores
@@ -179,7 +181,7 @@ module _ (chosen : ℕ) where
 
   -- ---- what two histories that are alike show
 
-  pub alike-answer : {h k : History} → AlikeAt h k → (c : Call) → isStruck scheduler chosen h c ≡ false → isTick c ≡ false
+  pub alike-answer : {h k : History} → AlikeAt h k → (c : Call) → isStruck chosen (trace h) c ≡ false → isTick c ≡ false
       → answerAt scheduler h c ≡ answerAt scheduler k c
   unfolding answerAt
   alike-answer {h} {k} a c e n =
@@ -239,28 +241,32 @@ module _ (chosen : ℕ) where
   -- ---- what is logged
 
   -- What is logged respects erasure: a struck-out call is not logged, and a kept one is logged alike.
-  pub record Logged {A : Type 0} (which : History → Call → Bool) (shows : History → Call → A) : Type 0 where
-    pub struckOut : (h : History) (c : Call) → isStruck scheduler chosen h c ≡ true → which h c ≡ false
-    pub which-alike : {h k : History} → AlikeAt h k → (c : Call) → isStruck scheduler chosen h c ≡ false → which h c ≡ which k c
-    pub shows-alike : {h k : History} → AlikeAt h k → (c : Call) → isStruck scheduler chosen h c ≡ false → which h c ≡ true
-        → shows h c ≡ shows k c
+  pub record Logged {A : Type 0} (which : Trace → Dealing → Bool) (shows : Dealing → A) : Type 0 where
+    pub struckOut : (h : History) (c : Call) → isStruck chosen (trace h) c ≡ true → which (trace h) (dealt h c) ≡ false
+    pub which-alike : {h k : History} → AlikeAt h k → (c : Call) → isStruck chosen (trace h) c ≡ false
+        → which (trace h) (dealt h c) ≡ which (trace k) (dealt k c)
+    pub shows-alike : {h k : History} → AlikeAt h k → (c : Call) → isStruck chosen (trace h) c ≡ false
+        → which (trace h) (dealt h c) ≡ true
+        → shows (dealt h c) ≡ shows (dealt k c)
 
-  module _ {A : Type 0} (which : History → Call → Bool) (shows : History → Call → A) (L : Logged which shows) where
-    log-kept : (h : History) → log scheduler chosen which shows h ≡ log scheduler chosen which shows (kept scheduler chosen h)
-    unfolding log kept
+  module _ {A : Type 0} (which : Trace → Dealing → Bool) (shows : Dealing → A) (L : Logged which shows) where
+    logged : History → List (ℕ × A)
+    logged h = log chosen which shows (trace h)
+
+    log-kept : (h : History) → logged h ≡ logged (kept chosen (trace h))
+    unfolding log kept traceOf dealingAt logged
     log-kept start = refl
-    log-kept (h then c) = go (isStruck scheduler chosen h c) refl (which h c) refl (log-kept h)
+    log-kept (h then c) = go (isStruck chosen (trace h) c) refl (which (trace h) (dealt h c)) refl (log-kept h)
       where
         K : History
-        K = kept scheduler chosen h
+        K = kept chosen (trace h)
 
         a : AlikeAt h K
         a = kept-alike h
 
-        go : (b : Bool) → isStruck scheduler chosen h c ≡ b → (w : Bool) → which h c ≡ w
-            → log scheduler chosen which shows h ≡ log scheduler chosen which shows K
-            → cond w ((calls K, shows h c) ∷ log scheduler chosen which shows h) (log scheduler chosen which shows h)
-            ≡ log scheduler chosen which shows (cond b K (K then c))
+        go : (b : Bool) → isStruck chosen (trace h) c ≡ b → (w : Bool) → which (trace h) (dealt h c) ≡ w
+            → logged h ≡ logged K
+            → cond w ((calls K, shows (dealt h c)) ∷ logged h) (logged h) ≡ logged (cond b K (K then c))
         go true e true f ih = true-false f (L .struckOut h c e)
         go true e false f ih = ih
         go false e true f ih =
@@ -268,6 +274,7 @@ module _ (chosen : ℕ) where
             (ap₂ (λ (x : ℕ × A) (l : List (ℕ × A)). x ∷ l) (λ i. (calls (a .keeps i), L .shows-alike a c e f i)) ih)
         go false e false f ih = rw (sym (L .which-alike a c e) ∙ f) ih
 
-    pub log-same : (h k : History) → kept scheduler chosen h ≡ kept scheduler chosen k
-        → log scheduler chosen which shows h ≡ log scheduler chosen which shows k
-    log-same h k e = log-kept h ∙ ap (log scheduler chosen which shows) e ∙ sym (log-kept k)
+    pub log-same : (h k : History) → kept chosen (trace h) ≡ kept chosen (trace k)
+        → log chosen which shows (trace h) ≡ log chosen which shows (trace k)
+    unfolding logged
+    log-same h k e = log-kept h ∙ ap logged e ∙ sym (log-kept k)

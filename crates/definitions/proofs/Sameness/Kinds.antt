@@ -15,11 +15,18 @@ use Rattle.definitions.specs.Checks.{Result, Check, checked, accepted, o
 use Rattle.definitions.specs.Calls.{onOpen, updated, onJoin, orderAfterChange, onChange, onLeave, onLoad, orderAfterArrival, onArrive}
 use Rattle.definitions.specs.Tick.{turn, refillAll, slotted, onTick}
 use Rattle.definitions.specs.Core.{step}
-use Rattle.definitions.specs.History.{History, start, _then_, clientOf, scheduler}
-use Rattle.definitions.specs.Sameness.{indifferentBy, after, answerAt, indifferentAt}
+use Rattle.definitions.specs.History.{History, start, _then_, Dealing, Trace, clientOf, scheduler, after, answerAt, dealingAt, traceOf}
+use Rattle.definitions.specs.Sameness.{indifferentBy, indifferentAt}
 use Rattle.definitions.proofs.Laws.Tests.{eqb-comm}
 use Rattle.definitions.proofs.Laws.Checked.{checked-cases}
 use Rattle.definitions.proofs.Laws.Clients.{put-keeps, sent-keeps, sameKind-true, kindOf-indifferent}
+
+-- what the calls of a history get, as they are defined
+abbrev pub trace : History → Trace
+trace h = traceOf scheduler h
+
+abbrev pub dealt : History → Call → Dealing
+dealt h c = dealingAt scheduler h c
 
 -- whether an id is indifferent in a core
 unfoldable pub holdsIndifferent : ℕ → Core → Bool
@@ -92,7 +99,7 @@ told id unopened (Load j n) = refl
 told id unopened (Arrive j p) = refl
 told id unopened Tick = refl
 
-pub indifferent-held : (id : ℕ) (h : History) → indifferentAt scheduler id h ≡ holdsIndifferent id (after scheduler h)
-unfolding indifferentAt after answerAt holdsIndifferent clientOf
+pub indifferent-held : (id : ℕ) (h : History) → indifferentAt id (trace h) ≡ holdsIndifferent id (after scheduler h)
+unfolding indifferentAt traceOf dealingAt after answerAt holdsIndifferent clientOf
 indifferent-held id start = refl
 indifferent-held id (h then c) = rw (indifferent-held id h) (sym (told id (after scheduler h) c))

@@ -14,8 +14,8 @@ use Rattle.definitions.specs.Checks.{Result, Check, accepted, checked, a
 use Rattle.definitions.specs.Calls.{onOpen, updated, onJoin, orderAfterChange, onChange, onLeave, onLoad, orderAfterArrival, onArrive}
 use Rattle.definitions.specs.Tick.{turn, refillAll, slotted, onTick}
 use Rattle.definitions.specs.Core.{step}
-use Rattle.definitions.specs.History.{History, start, _then_, scheduler}
-use Rattle.definitions.specs.Sameness.{isSetting, after, answerAt, settingsOf, settingAnswers, SettingsAlone}
+use Rattle.definitions.specs.History.{History, start, _then_, scheduler, after, answerAt}
+use Rattle.definitions.specs.Sameness.{isSetting, settingsOf, settingAnswers, SettingsAlone}
 use Rattle.definitions.proofs.Laws.Tests.{true-false}
 use Rattle.definitions.proofs.Laws.Checked.{checked-cases, checked-rel}
 use Rattle.definitions.proofs.Laws.Clients.{put-keeps, sent-keeps}
@@ -129,13 +129,13 @@ other-kept (running s) Tick e =
 -- ---- histories
 
 -- the core after a history, and after its settings alone
-outline-settings : (h : History) → outlineCore (after scheduler h) ≡ outlineCore (after scheduler (settingsOf scheduler h))
+outline-settings : (h : History) → outlineCore (after scheduler h) ≡ outlineCore (after scheduler (settingsOf h))
 unfolding after settingsOf
 outline-settings start = refl
 outline-settings (h then c) = go (isSetting c) refl (outline-settings h)
   where
     K : History
-    K = settingsOf scheduler h
+    K = settingsOf h
 
     go : (b : Bool)
         → isSetting c ≡ b
@@ -147,13 +147,13 @@ outline-settings (h then c) = go (isSetting c) refl (outline-settings h)
         ∙ sym (setting-alike (after scheduler K) c e .cores)
     go false e ih = other-kept (after scheduler h) c e ∙ ih
 
-answers-settings : (h : History) → settingAnswers scheduler h ≡ settingAnswers scheduler (settingsOf scheduler h)
+answers-settings : (h : History) → settingAnswers scheduler h ≡ settingAnswers scheduler (settingsOf h)
 unfolding settingAnswers settingsOf answerAt
 answers-settings start = refl
 answers-settings (h then c) = go (isSetting c) refl (answers-settings h)
   where
     K : History
-    K = settingsOf scheduler h
+    K = settingsOf h
 
     go : (b : Bool)
         → isSetting c ≡ b

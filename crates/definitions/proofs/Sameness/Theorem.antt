@@ -12,11 +12,11 @@ use Rattle.definitions.specs.declared.Call.the-variants.{Open, Join, Cha
 use Rattle.definitions.specs.declared.Answer.{Answer}
 use Rattle.definitions.specs.Client.{Client}
 use Rattle.definitions.specs.Answers.{number, isDeparture}
-use Rattle.definitions.specs.History.{History, _then_, Place, end, before, calls, pickOf, clientOf, scheduler}
-use Rattle.definitions.specs.Sameness.{isSetting, isTick, isArrival, names, after, answerAt, indifferentAt, isStruck, kept, departure, drop, SameDealings, SameHoldings, LooksSame, Sameness}
+use Rattle.definitions.specs.History.{History, _then_, Place, end, before, calls, clientOf, Trace, holdingsOf, scheduler, after, answerAt, dealingAt, traceOf}
+use Rattle.definitions.specs.Sameness.{isSetting, isTick, isArrival, names, indifferentAt, isStruck, kept, departure, drop, SameDealings, SameHoldings, LooksSame, Sameness}
 use Rattle.definitions.proofs.Laws.Tests.{T-true, true-false, and-both, eqb-same}
 use Rattle.definitions.proofs.Sameness.Erase.{hidden}
-use Rattle.definitions.proofs.Sameness.Kinds.{holdsIndifferent, indifferent-held}
+use Rattle.definitions.proofs.Sameness.Kinds.{trace, holdsIndifferent, indifferent-held}
 use Rattle.definitions.proofs.Sameness.Histories.{AlikeAt, alike-indifferent, alike-answer, alike-pick, alike-departure, alike-departed, alike-client, hidden-not, alike-through, Logged, log-same}
 
 -- ---- places
@@ -36,18 +36,18 @@ place-unique (before p) (before q) e = place-unique p q e
 
 module _ (chosen : ℕ) where
   -- the kept calls behind a place are behind a place of the kept calls
-  place-kept : {h whole : History} → Place h whole → Place (kept scheduler chosen h) (kept scheduler chosen whole)
-  unfolding kept
+  place-kept : {h whole : History} → Place h whole → Place (kept chosen (trace h)) (kept chosen (trace whole))
+  unfolding kept traceOf dealingAt
   place-kept end = end
-  place-kept (before {whole} {c} p) = go (isStruck scheduler chosen whole c) (place-kept p)
+  place-kept (before {whole} {c} p) = go (isStruck chosen (trace whole) c) (place-kept p)
     where
-      go : {h′ : History} (b : Bool) → Place h′ (kept scheduler chosen whole) → Place h′ (cond b (kept scheduler chosen whole) (kept scheduler chosen whole then c))
+      go : {h′ : History} (b : Bool) → Place h′ (kept chosen (trace whole)) → Place h′ (cond b (kept chosen (trace whole)) (kept chosen (trace whole) then c))
       go true q = q
       go false q = before q
 
   -- ---- a client that is watched where it is the chosen one or indifferent
 
-  not-tick-struck : (h : History) (c : Call) → isStruck scheduler chosen h c ≡ true → isTick c ≡ false
+  not-tick-struck : (h : History) (c : Call) → isStruck chosen (trace h) c ≡ true → isTick c ≡ false
   unfolding isStruck isTick
   not-tick-struck h (Open t d v) e = refl
   not-tick-struck h (Join j k r b) e = refl
@@ -80,9 +80,9 @@ module _ (chosen : ℕ) where
 
     -- the chosen client, or one that is indifferent there
     abbrev Watched : History → Type 0
-    Watched h = not (eqb id chosen) && not (indifferentAt scheduler id h) ≡ false
+    Watched h = not (eqb id chosen) && not (indifferentAt id (trace h)) ≡ false
 
-    other : (h : History) (j : ℕ) → Watched h → not (eqb j chosen) && not (indifferentAt scheduler j h) ≡ true → eqb j id ≡ false
+    other : (h : History) (j : ℕ) → Watched h → not (eqb j chosen) && not (indifferentAt j (trace h)) ≡ true → eqb j id ≡ false
     other h j w e = go (eqb j id) refl
       where
         go : (b : Bool) → eqb j id ≡ b → b ≡ false
@@ -90,7 +90,7 @@ module _ (chosen : ℕ) where
         go false q = refl
 
     -- a struck-out call does not name it
-    struck-names : (h : History) (c : Call) → Watched h → isStruck scheduler chosen h c ≡ true → names id c ≡ false
+    struck-names : (h : History) (c : Call) → Watched h → isStruck chosen (trace h) c ≡ true → names id c ≡ false
     unfolding isStruck names
     struck-names h (Open t d v) w e = refl
     struck-names h (Join j k r b) w e = true-false e refl
@@ -100,31 +100,32 @@ module _ (chosen : ℕ) where
     struck-names h (Arrive j p) w e = other h j w e
     struck-names h Tick w e = refl
 
-    module _ (when : History → Bool) (steady : (h k : History) → AlikeAt chosen h k → when h ≡ when k)
-        (watched : (h : History) → when h ≡ true → Watched h) where
+    module _ (when : Trace → Bool) (steady : (h k : History) → AlikeAt chosen h k → when (trace h) ≡ when (trace k))
+        (watched : (h : History) → when (trace h) ≡ true → Watched h) where
       -- a struck-out call is not logged where it would have to name the client
-      not-named : (h : History) (c : Call) (more : Bool) → isStruck scheduler chosen h c ≡ true → when h && (names id c && more) ≡ false
-      not-named h c more e = go (when h) refl
+      not-named : (h : History) (c : Call) (more : Bool) → isStruck chosen (trace h) c ≡ true → when (trace h) && (names id c && more) ≡ false
+      not-named h c more e = go (when (trace h)) refl
         where
-          go : (b : Bool) → when h ≡ b → b && (names id c && more) ≡ false
+          go : (b : Bool) → when (trace h) ≡ b → b && (names id c && more) ≡ false
           go true w = rw (struck-names h c (watched h w) e)
           go false w = refl
 
-      seen : (h : History) → when h ≡ true → hidden chosen id (clientOf (after scheduler h) id) ≡ false
+      seen : (h : History) → when (trace h) ≡ true → hidden chosen id (clientOf (after scheduler h) id) ≡ false
       unfolding holdsIndifferent
       seen h w = hidden-not chosen id (clientOf (after scheduler h) id) (rw (indifferent-held id h) at (watched h w))
 
-      answers-logged : Logged chosen (λ p c. when p && names id c) (answerAt scheduler)
+      answers-logged : Logged chosen (λ p d. when p && names id (d .call)) (λ d. d .answer)
+      unfolding dealingAt
       answers-logged = record {
-        struckOut = λ h c e. ap (λ (b : Bool). when h && b) (sym (and-true (names id c))) ∙ not-named h c true e;
+        struckOut = λ h c e. ap (λ (b : Bool). when (trace h) && b) (sym (and-true (names id c))) ∙ not-named h c true e;
         which-alike = λ {h} {k} a c e. ap (λ (b : Bool). b && names id c) (steady h k a);
-        shows-alike = λ {h} {k} a c e w. alike-answer chosen a c e (not-tick-named c (and-both (when h) (names id c) w .1));
+        shows-alike = λ {h} {k} a c e w. alike-answer chosen a c e (not-tick-named c (and-both (when (trace h)) (names id c) w .1));
       }
 
-      departures-logged : Logged chosen (λ p c. when p && departure scheduler id p c) (answerAt scheduler)
-      unfolding departure isTick
+      departures-logged : Logged chosen (λ p d. when p && departure id d) (λ d. d .answer)
+      unfolding departure isTick dealingAt
       departures-logged = record {
-        struckOut = λ h c e. rw (not-tick-struck h c e) (and-false (when h));
+        struckOut = λ h c e. rw (not-tick-struck h c e) (and-false (when (trace h)));
         which-alike = λ {h} {k} a c e. ap₂ _&&_ (steady h k a) (departs h k a c);
         shows-alike = λ {h} {k} a c e w. departed h k a c w;
       }
@@ -139,46 +140,47 @@ module _ (chosen : ℕ) where
           departs h k a (Arrive j p) = refl
           departs h k a Tick = alike-departure chosen a id
 
-          departed : (h k : History) → AlikeAt chosen h k → (c : Call) → when h && (isTick c && isDeparture id (answerAt scheduler h c)) ≡ true
+          departed : (h k : History) → AlikeAt chosen h k → (c : Call) → when (trace h) && (isTick c && isDeparture id (answerAt scheduler h c)) ≡ true
               → answerAt scheduler h c ≡ answerAt scheduler k c
-          departed h k a (Open t d v) w = true-false (and-both (when h) false w .1) refl
-          departed h k a (Join j kind r b) w = true-false (and-both (when h) false w .1) refl
-          departed h k a (Change j kind r b) w = true-false (and-both (when h) false w .1) refl
-          departed h k a (Leave j) w = true-false (and-both (when h) false w .1) refl
-          departed h k a (Load j n) w = true-false (and-both (when h) false w .1) refl
-          departed h k a (Arrive j p) w = true-false (and-both (when h) false w .1) refl
+          departed h k a (Open t d v) w = true-false (and-both (when (trace h)) false w .1) refl
+          departed h k a (Join j kind r b) w = true-false (and-both (when (trace h)) false w .1) refl
+          departed h k a (Change j kind r b) w = true-false (and-both (when (trace h)) false w .1) refl
+          departed h k a (Leave j) w = true-false (and-both (when (trace h)) false w .1) refl
+          departed h k a (Load j n) w = true-false (and-both (when (trace h)) false w .1) refl
+          departed h k a (Arrive j p) w = true-false (and-both (when (trace h)) false w .1) refl
           departed h k a Tick w =
-              alike-departed chosen a id (seen h (and-both (when h) (isDeparture id (answerAt scheduler h Tick)) w .0))
-              (and-both (when h) (isDeparture id (answerAt scheduler h Tick)) w .1)
+              alike-departed chosen a id (seen h (and-both (when (trace h)) (isDeparture id (answerAt scheduler h Tick)) w .0))
+              (and-both (when (trace h)) (isDeparture id (answerAt scheduler h Tick)) w .1)
 
       -- an arrival that was dropped
       dropped : History → Call → Bool
       dropped h c = isArrival c && (eqb (number (answerAt scheduler h c)) 14 || eqb (number (answerAt scheduler h c)) 15)
 
-      drops-logged : Logged chosen (λ p c. when p && drop scheduler id p c) (answerAt scheduler)
-      unfolding drop dropped
+      drops-logged : Logged chosen (λ p d. when p && drop id d) (λ d. d .answer)
+      unfolding drop dropped dealingAt
       drops-logged = record {
         struckOut = λ h c e. not-named h c (dropped h c) e;
         which-alike = λ {h} {k} a c e. ap₂ _&&_ (steady h k a) (same h k a c e (names id c) refl);
         shows-alike = λ {h} {k} a c e w.
-            alike-answer chosen a c e (not-tick-named c (and-both (names id c) (dropped h c) (and-both (when h) (names id c && dropped h c) w .1) .0));
+            alike-answer chosen a c e (not-tick-named c (and-both (names id c) (dropped h c) (and-both (when (trace h)) (names id c && dropped h c) w .1) .0));
       }
         where
-          same : (h k : History) → AlikeAt chosen h k → (c : Call) → isStruck scheduler chosen h c ≡ false → (b : Bool) → names id c ≡ b
+          same : (h k : History) → AlikeAt chosen h k → (c : Call) → isStruck chosen (trace h) c ≡ false → (b : Bool) → names id c ≡ b
               → b && dropped h c ≡ b && dropped k c
           same h k a c e true n =
               ap (λ (x : Answer). isArrival c && (eqb (number x) 14 || eqb (number x) 15)) (alike-answer chosen a c e (not-tick-named c n))
           same h k a c e false n = refl
 
-      dealings-same : (h k : History) → kept scheduler chosen h ≡ kept scheduler chosen k → SameDealings scheduler chosen id when h k
+      dealings-same : (h k : History) → kept chosen (trace h) ≡ kept chosen (trace k) → SameDealings chosen id when (trace h) (trace k)
       dealings-same h k e = record {
-        answers = log-same chosen (λ p c. when p && names id c) (answerAt scheduler) answers-logged h k e;
-        departures = log-same chosen (λ p c. when p && departure scheduler id p c) (answerAt scheduler) departures-logged h k e;
-        drops = log-same chosen (λ p c. when p && drop scheduler id p c) (answerAt scheduler) drops-logged h k e;
+        answers = log-same chosen (λ p d. when p && names id (d .call)) (λ d. d .answer) answers-logged h k e;
+        departures = log-same chosen (λ p d. when p && departure id d) (λ d. d .answer) departures-logged h k e;
+        drops = log-same chosen (λ p d. when p && drop id d) (λ d. d .answer) drops-logged h k e;
       }
 
-    holdings-same : (h k : History) → AlikeAt chosen h k → Watched h → SameHoldings scheduler id h k
-    unfolding holdsIndifferent
+    holdings-same : (h k : History) → AlikeAt chosen h k → Watched h
+        → SameHoldings id (holdingsOf (after scheduler h)) (holdingsOf (after scheduler k))
+    unfolding holdsIndifferent holdingsOf
     holdings-same h k a w = record {
       queue = ap (λ (c : Client). c .queue) same;
       pool = ap (λ (c : Client). c .pool) same;
@@ -190,15 +192,15 @@ module _ (chosen : ℕ) where
 
   -- ---- the settings and the slots
 
-  settings-logged : Logged chosen (λ p c. isSetting c) (answerAt scheduler)
-  unfolding isSetting isStruck
+  settings-logged : Logged chosen (λ p d. isSetting (d .call)) (λ d. d .answer)
+  unfolding isSetting isStruck dealingAt
   settings-logged = record {
     struckOut = not-setting;
     which-alike = λ a c e. refl;
     shows-alike = λ a c e w. alike-answer chosen a c e (not-tick-setting c w);
   }
     where
-      not-setting : (h : History) (c : Call) → isStruck scheduler chosen h c ≡ true → isSetting c ≡ false
+      not-setting : (h : History) (c : Call) → isStruck chosen (trace h) c ≡ true → isSetting c ≡ false
       not-setting h (Open t d v) e = sym e
       not-setting h (Join j k r b) e = sym e
       not-setting h (Change j k r b) e = sym e
@@ -207,7 +209,8 @@ module _ (chosen : ℕ) where
       not-setting h (Arrive j p) e = refl
       not-setting h Tick e = refl
 
-  slots-logged : Logged chosen (λ p c. isTick c) (λ p c. pickOf (after scheduler p))
+  slots-logged : Logged chosen (λ p d. isTick (d .call)) (λ d. d .pick)
+  unfolding dealingAt
   slots-logged = record {
     struckOut = not-tick-struck;
     which-alike = λ a c e. refl;
@@ -216,14 +219,15 @@ module _ (chosen : ℕ) where
 
   -- ---- all of it, at two places with the same kept calls behind them
 
-  looks-same : (h k : History) → kept scheduler chosen h ≡ kept scheduler chosen k → LooksSame scheduler chosen h k
+  looks-same : (h k : History) → kept chosen (trace h) ≡ kept chosen (trace k)
+      → LooksSame chosen (trace h) (holdingsOf (after scheduler h)) (trace k) (holdingsOf (after scheduler k))
   looks-same h k e = record {
-    settings = log-same chosen (λ p c. isSetting c) (answerAt scheduler) settings-logged h k e;
-    slots = log-same chosen (λ p c. isTick c) (λ p c. pickOf (after scheduler p)) slots-logged h k e;
+    settings = log-same chosen (λ p d. isSetting (d .call)) (λ d. d .answer) settings-logged h k e;
+    slots = log-same chosen (λ p d. isTick (d .call)) (λ d. d .pick) slots-logged h k e;
     chosenDealings = dealings-same chosen (λ p. true) (λ p q a. refl) (λ p w. own p) h k e;
     chosenHoldings = holdings-same chosen h k alike (own h);
     indifferentAlike = alike-indifferent chosen alike;
-    indifferentDealings = λ id. dealings-same id (indifferentAt scheduler id) (λ p q a. alike-indifferent chosen a id) (indifferently id) h k e;
+    indifferentDealings = λ id. dealings-same id (indifferentAt id) (λ p q a. alike-indifferent chosen a id) (indifferently id) h k e;
     indifferentHoldings = λ id w. holdings-same id h k alike (indifferently id h (T-true w));
   }
     where
@@ -233,7 +237,7 @@ module _ (chosen : ℕ) where
       own : (p : History) → Watched chosen p
       own p = rw (eqb-same chosen)
 
-      indifferently : (id : ℕ) (p : History) → indifferentAt scheduler id p ≡ true → Watched id p
+      indifferently : (id : ℕ) (p : History) → indifferentAt id (trace p) ≡ true → Watched id p
       indifferently id p w = rw w (and-false (not (eqb id chosen)))
 
 pub sameness : Sameness scheduler

@@ -1,0 +1,59 @@
+-- The calls as they are defined, but for one of them: what the leaks and the wrong versions of paper 01 are made of.
+use Prim.Native.Nat.{ℕ}
+use mathlib.Core.Bool.{Bool, cond}
+use mathlib.Core.List.{[], _∷_}
+use Rattle.definitions.specs.declared.Packet.{Packet}
+use Rattle.definitions.specs.declared.Call.{Call}
+use Rattle.definitions.specs.declared.Call.the-variants.{Open, Join, Change, Leave, Load, Arrive, Tick}
+use Rattle.definitions.specs.declared.Answer.the-variants.{Slot}
+use Rattle.definitions.specs.Sizes.{shortest, longest}
+use Rattle.definitions.specs.State.{State, Core, running}
+use Rattle.definitions.specs.Checks.{Result, check, accepted, checked, within, activeChecks}
+use Rattle.definitions.specs.Calls.{updated, orderAfterArrival}
+use Rattle.definitions.specs.Client.{queued}
+use Rattle.definitions.specs.Tick.{Turn, outcomeBy, slotted}
+use Rattle.definitions.specs.Core.{whenOpened, step}
+use Rattle.definitions.specs.History.{Scheduler, pickIn, schedulerBy}
+use Rattle.definitions.specs.Sameness.{isTick}
+
+-- another tick
+unfoldable pub withTick : (State → Result) → Core → Call → Result
+withTick tick core c = cond (isTick c) (whenOpened core tick) (step core c)
+
+-- a slot that is another turn's
+unfoldable pub slotBy : (State → Turn) → State → Result
+slotBy turnOf s = record {
+  answer = Slot (outcomeBy (turnOf s .rule) (turnOf s .id) (s .clients));
+  core = running (slotted s (turnOf s));
+}
+
+abbrev pub byTurn : (State → Turn) → Scheduler
+byTurn turnOf = schedulerBy (withTick (slotBy turnOf)) (pickIn turnOf)
+
+-- another arrive
+unfoldable pub withArrive : (State → ℕ → Packet → Result) → Core → Call → Result
+withArrive arrive core (Arrive id p) = whenOpened core (λ s. arrive s id p)
+withArrive arrive core (Open threshold discipline seed) = step core (Open threshold discipline seed)
+withArrive arrive core (Join id type rate burst) = step core (Join id type rate burst)
+withArrive arrive core (Change id type rate burst) = step core (Change id type rate burst)
+withArrive arrive core (Leave id) = step core (Leave id)
+withArrive arrive core (Load id dummies) = step core (Load id dummies)
+withArrive arrive core Tick = step core Tick
+
+-- an arrive by whose checks 14 and 15 a packet finds room and a token
+unfoldable pub arriveIf : (State → ℕ → Bool) → (State → ℕ → Bool) → State → ℕ → Packet → Result
+arriveIf room token s id p =
+    checked
+    (activeChecks s id (check 13 (within shortest longest (p .length)) ∷ check 14 (room s id) ∷ check 15 (token s id) ∷ []))
+    (running s)
+    (accepted (updated s id (queued (s .clients id) p) (orderAfterArrival s id)))
+
+-- another change
+unfoldable pub withChange : (State → ℕ → ℕ → ℕ → ℕ → Result) → Core → Call → Result
+withChange change core (Change id type rate burst) = whenOpened core (λ s. change s id type rate burst)
+withChange change core (Open threshold discipline seed) = step core (Open threshold discipline seed)
+withChange change core (Join id type rate burst) = step core (Join id type rate burst)
+withChange change core (Leave id) = step core (Leave id)
+withChange change core (Load id dummies) = step core (Load id dummies)
+withChange change core (Arrive id p) = step core (Arrive id p)
+withChange change core Tick = step core Tick
