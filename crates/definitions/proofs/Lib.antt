@@ -13,3 +13,5 @@ pub mod Cases
 pub mod Limits
 pub mod Bound
 pub mod Sameness
+-- the versions that have to break the contract
+pub mod WrongVersions

@@ -1,16 +1,18 @@
 -- The calls as they are defined, but for one of them: what the leaks and the wrong versions of paper 01 are made of.
 use Prim.Native.Nat.{ℕ}
-use mathlib.Core.Bool.{Bool, cond}
+use mathlib.Core.Bool.{Bool, cond, not, _||_}
 use mathlib.Core.List.{[], _∷_}
+use lib.Dec.{leb, ltb}
+use lib.ListN.{length}
 use Rattle.definitions.specs.declared.Packet.{Packet}
 use Rattle.definitions.specs.declared.Call.{Call}
 use Rattle.definitions.specs.declared.Call.the-variants.{Open, Join, Change, Leave, Load, Arrive, Tick}
 use Rattle.definitions.specs.declared.Answer.the-variants.{Slot}
-use Rattle.definitions.specs.Sizes.{shortest, longest}
+use Rattle.definitions.specs.Sizes.{places, shares, shortest, longest}
 use Rattle.definitions.specs.State.{State, Core, running}
 use Rattle.definitions.specs.Checks.{Result, check, accepted, checked, within, activeChecks}
 use Rattle.definitions.specs.Calls.{updated, orderAfterArrival}
-use Rattle.definitions.specs.Client.{queued}
+use Rattle.definitions.specs.Client.{isIndifferent, queued}
 use Rattle.definitions.specs.Tick.{Turn, outcomeBy, slotted}
 use Rattle.definitions.specs.Core.{whenOpened, step}
 use Rattle.definitions.specs.History.{Scheduler, pickIn, schedulerBy}
@@ -40,7 +42,14 @@ withArrive arrive core (Leave id) = step core (Leave id)
 withArrive arrive core (Load id dummies) = step core (Load id dummies)
 withArrive arrive core Tick = step core Tick
 
--- an arrive by whose checks 14 and 15 a packet finds room and a token
+-- what checks 14 and 15 ask for
+unfoldable pub roomLeft : State → ℕ → Bool
+roomLeft s id = ltb (length (s .clients id .queue)) places
+
+unfoldable pub tokenLeft : State → ℕ → Bool
+tokenLeft s id = not (isIndifferent (s .clients id .kind)) || leb shares (s .clients id .level)
+
+-- an arrive whose checks 14 and 15 ask for something else
 unfoldable pub arriveIf : (State → ℕ → Bool) → (State → ℕ → Bool) → State → ℕ → Packet → Result
 arriveIf room token s id p =
     checked

@@ -1,11 +1,11 @@
 -- What demand 3 rules out: the leaks among paper 01's "Faults a builder may like". Each is a scheduler that is the defined one but
 -- for that fault. "Refilling only the client picked, or taking a token for a packet refused with 14" is wrong, and no leak.
 use Prim.Native.Nat.{ℕ, suc, _+_, _%_}
-use mathlib.Core.Bool.{Bool, true, false, cond, not, _&&_, _||_}
+use mathlib.Core.Bool.{Bool, true, false, cond, _&&_}
 use mathlib.Core.List.{List, [], _++_}
-use lib.Dec.{eqb, leb, ltb}
+use lib.Dec.{eqb, ltb}
 use lib.ListN.{length, replicate}
-use Rattle.definitions.specs.Sizes.{ids, places, shares}
+use Rattle.definitions.specs.Sizes.{ids, places}
 use Rattle.definitions.specs.Draw.{sumBelow, firstFrom}
 use Rattle.definitions.specs.Client.{Client, nobody, kindOf, sameKind, isIndifferent, isPrivate, empty, changed}
 use Rattle.definitions.specs.State.{State, running, without}
@@ -14,7 +14,7 @@ use Rattle.definitions.specs.Calls.{updated}
 use Rattle.definitions.specs.Tick.{Rule, rule1, rule2, rule3, Turn, turn}
 use Rattle.definitions.specs.History.{Scheduler, pickOf, schedulerBy}
 use Rattle.definitions.specs.Sameness.{Sameness}
-use Rattle.definitions.specs.Altered.{byTurn, withArrive, arriveIf, withChange}
+use Rattle.definitions.specs.Altered.{byTurn, withArrive, tokenLeft, arriveIf, withChange}
 
 -- "Drawing only among private clients that wait": the others are as good as absent.
 unfoldable pub waitingOnly : (ℕ → Client) → ℕ → Client
@@ -59,9 +59,6 @@ idleHandedOn = byTurn turnHandedOn
 -- packets fill it.
 unfoldable pub roomInStore : State → ℕ → Bool
 roomInStore s id = ltb (sumBelow ids (λ other. length (s .clients other .queue))) places
-
-unfoldable pub tokenLeft : State → ℕ → Bool
-tokenLeft s id = not (isIndifferent (s .clients id .kind)) || leb shares (s .clients id .level)
 
 abbrev pub oneStore : Scheduler
 oneStore = schedulerBy (withArrive (arriveIf roomInStore tokenLeft)) pickOf

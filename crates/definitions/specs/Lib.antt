@@ -26,3 +26,4 @@ pub mod Cases
 -- what the claims rule out
 pub mod Altered
 pub mod Leaks
+pub mod WrongVersions

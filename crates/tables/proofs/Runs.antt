@@ -1,46 +1,83 @@
--- A run of the code goes as the definitions say, however long it is and whatever is called: so each theorem over the
--- histories of the definitions, demand 3 among them, is one about the code. By induction over the run. Assumes nothing.
+-- A run of the code is the trace of the definitions, however long it is and whatever is called: its answers are theirs, and its
+-- tables mean the core that they reach. So what is claimed of all histories is so of all runs. By induction over the run.
+-- Assumes nothing but the promises that a run is made of.
 use Prim.Native.Nat.{ℕ}
-use mathlib.Core.Path.{_≡_, ap, _∙_}
+use mathlib.Core.Path.{_≡_, refl, sym, ap, ap₂, _∙_}
 use Rattle.definitions.specs.declared.Call.{Call}
+use Rattle.definitions.specs.declared.Answer.{Answer}
+use Rattle.definitions.specs.declared.Answer.the-variants.{Accepted}
 use Rattle.definitions.specs.State.{Core}
 use Rattle.definitions.specs.Core.{step}
-use Rattle.definitions.specs.History.{History, end, calls, scheduler}
-use Rattle.definitions.specs.Sameness.{after, answerAt, SameHoldings, LooksSame, Sameness}
+use Rattle.definitions.specs.History.{Place, end, before, calls, Trace, begin, _and_, Holdings, after, answerAt, dealingAt, traceOf, pickOf, holdingsOf, scheduler}
+use Rattle.definitions.specs.Sameness.{kept, LooksSame, Sameness}
 use Rattle.definitions.proofs.Sameness.Theorem.{sameness}
 use Rattle.tables.specs.declared.Control.{Control}
 use Rattle.tables.specs.declared.Answered.{Answered}
 use Rattle.tables.specs.Tables.{Tables}
 use Rattle.tables.specs.Meaning.{coreOf}
 use Rattle.tables.specs.Promise.{Meets}
-use Rattle.tables.specs.Run.{Run, begun, called, AlikeIn, CodeSameness}
+use Rattle.tables.specs.Run.{dealing, Reached, begun, called, Run, coreAfter, PlaceOf, CodeSameness, callsOf, CodeDefined, NeverWrong}
+use Rattle.tables.specs.Run as run
 
 -- the tables mean the core that the definitions reach
-pub run-core : {h : History} {c : Control} {t : Tables} → Run h c t → coreOf c t ≡ after scheduler h
-unfolding after
-run-core (begun e) = e
-run-core (called {call = call} run m) = m .core ∙ ap (λ (x : Core). step x call .core) (run-core run)
+reached-core : {t : Trace} {c : Control} {m : Tables} → Reached t c m → coreOf c m ≡ after scheduler (callsOf t)
+unfolding after callsOf
+reached-core (begun e) = e
+reached-core (called {call = call} run m) = m .core ∙ ap (λ (x : Core). step x call .core) (reached-core run)
 
--- and the next call gets the answer that the definitions give
-pub run-answer : {h : History} {c : Control} {t u : Tables} {call : Call} {r : Answered}
-    → Run h c t
-    → Meets call c t r u
-    → r .answer ≡ answerAt scheduler h call
-unfolding answerAt
-run-answer {call = call} run m = m .answer ∙ ap (λ (x : Core). step x call .answer) (run-core run)
+-- the next call is dealt with as the definitions say
+reached-dealing : {t : Trace} {c : Control} {m u : Tables} {call : Call} {r : Answered}
+    → Reached t c m
+    → Meets call c m r u
+    → dealing call c m r ≡ dealingAt scheduler (callsOf t) call
+unfolding answerAt dealingAt
+reached-dealing {call = call} run m = λ i. record {
+  call = call;
+  answer = (m .answer ∙ ap (λ (x : Core). step x call .answer) (reached-core run)) i;
+  pick = ap pickOf (reached-core run) i;
+}
 
--- Demand 3 for the code. The answers of two runs are those of the definitions, by `run-answer`, and their cores too, by
--- `run-core`.
+-- so what was called and what it got is what the definitions give to the same calls
+reached-trace : {t : Trace} {c : Control} {m : Tables} → Reached t c m → t ≡ traceOf scheduler (callsOf t)
+unfolding traceOf callsOf
+reached-trace (begun e) = refl
+reached-trace (called run m) = ap₂ _and_ (reached-trace run) (reached-dealing run m)
+
+pub run-defined : CodeDefined
+unfolding CodeDefined coreAfter
+run-defined run = record { dealt = reached-trace (run .reached); core = reached-core (run .reached) }
+
+-- a place of a run is one of its history
+place-called : {r R : Run} → PlaceOf r R → Place (callsOf (r .trace)) (callsOf (R .trace))
+unfolding callsOf
+place-called run.end = end
+place-called (run.before m p) = before (place-called p)
+
+looks-at : (chosen : ℕ) {t t′ u u′ : Trace} {x x′ y y′ : Holdings}
+    → t ≡ t′ → x ≡ x′ → u ≡ u′ → y ≡ y′
+    → LooksSame chosen t′ x′ u′ y′
+    → LooksSame chosen t x u y
+looks-at chosen e f g h looks = rw (e, f, g, h) looks
+
 pub run-sameness : CodeSameness
-unfolding CodeSameness Sameness
-run-sameness chosen H K c d t u run other e = rw (run-core run, run-core other) (record {
-  logs = looks;
-  chosenAlike = alike chosen (looks .chosenHoldings);
-  indifferentAlike = λ id w. alike id (looks .indifferentHoldings id w);
-})
+unfolding CodeSameness Sameness CodeDefined
+run-sameness chosen R Q e r q p w n =
+    looks-at chosen (run-defined r .dealt) (ap holdingsOf (run-defined r .core)) (run-defined q .dealt) (ap holdingsOf (run-defined q .core))
+    (sameness chosen (callsOf (R .trace)) (callsOf (Q .trace)) (sym (keeps R) ∙ e ∙ keeps Q)
+    (callsOf (r .trace)) (callsOf (q .trace)) (place-called p) (place-called w) (ap calls (sym (keeps r)) ∙ n ∙ ap calls (keeps q)))
   where
-    looks : LooksSame scheduler chosen H K
-    looks = sameness chosen H K e H K end end (ap calls e)
+    keeps : (run : Run) → kept chosen (run .trace) ≡ kept chosen (traceOf scheduler (callsOf (run .trace)))
+    keeps run = ap (kept chosen) (run-defined run .dealt)
 
-    alike : (id : ℕ) → SameHoldings scheduler id H K → AlikeIn (after scheduler H) (after scheduler K) id
-    alike id same = record { queue = same .queue; pool = same .pool; level = same .level }
+-- what the last call of a trace got; where nothing was called, anything
+lastAnswer : Trace → Answer
+lastAnswer begin = Accepted
+lastAnswer (t and d) = d .answer
+
+pub never-wrong : NeverWrong
+unfolding NeverWrong CodeDefined lastAnswer callsOf traceOf dealingAt
+never-wrong S wrong run earlier last e f g same =
+    wrong .differs (sym same ∙ told ∙ ap₂ (answerAt scheduler) f g)
+  where
+    told : last .answer ≡ answerAt scheduler (callsOf earlier) (last .call)
+    told = ap lastAnswer (sym e ∙ run-defined run .dealt ∙ ap (λ (t : Trace). traceOf scheduler (callsOf t)) e)

@@ -1,43 +1,90 @@
--- A run of the code: calls one after the other from an unopened core, each keeping its promise. The history is that of the
--- calls made, and control and tables are those after the last one. `CodeSameness` is demand 3 for two runs: "one claim about
--- two whole histories of any length, not a claim for each call" (paper 01).
+-- A run of the code: calls one after the other from an unopened core, each keeping its promise, with the answers that they
+-- gave. `CodeSameness` is demand 3 for any two runs: "one claim about two whole histories of any length, not a claim for each
+-- call" (paper 01, "Two histories"). What is compared is what the definitions compare: the answers are those of the code,
+-- and what a client holds and whom a slot picks is what the tables mean.
 use Prim.Native.Nat.{ℕ}
 use mathlib.Core.Path.{_≡_}
-use lib.Dec.{T}
+use mathlib.Core.Logic.{_≢_}
 use Rattle.definitions.specs.declared.Call.{Call}
 use Rattle.definitions.specs.State.{Core, unopened}
-use Rattle.definitions.specs.History.{History, start, _then_, clientOf, scheduler}
-use Rattle.definitions.specs.Sameness.{indifferentAt, kept, LooksSame}
+use Rattle.definitions.specs.History.{History, start, _then_, calls, Dealing, Trace, begin, _and_, Scheduler, after, answerAt, traceOf, pickOf, holdingsOf, scheduler}
+use Rattle.definitions.specs.Sameness.{kept, LooksSame}
+use Rattle.definitions.specs.WrongVersions.{Differs}
 use Rattle.tables.specs.declared.Control.{Control}
 use Rattle.tables.specs.declared.Answered.{Answered}
 use Rattle.tables.specs.Tables.{Tables}
 use Rattle.tables.specs.Meaning.{coreOf}
 use Rattle.tables.specs.Promise.{Meets}
 
-pub data Run : History → Control → Tables → Type 0 where
-  begun : {c : Control} {t : Tables} → coreOf c t ≡ unopened → Run start c t
-  called : {h : History} {c : Control} {t u : Tables} {call : Call} {r : Answered}
-      → Run h c t
+-- what was dealt where a call on control c and tables t gave r
+abbrev pub dealing : Call → Control → Tables → Answered → Dealing
+dealing call c t r = record { call = call; answer = r .answer; pick = pickOf (coreOf c t) }
+
+-- the trace is that of the calls made, and control and tables are those after the last one
+pub data Reached : Trace → Control → Tables → Type 0 where
+  begun : {c : Control} {t : Tables} → coreOf c t ≡ unopened → Reached begin c t
+  called : {trace : Trace} {c : Control} {t u : Tables} {call : Call} {r : Answered}
+      → Reached trace c t
       → Meets call c t r u
-      → Run (h then call) (r .control) u
+      → Reached (trace and dealing call c t r) (r .control) u
 
--- "Queue (handles and lengths from the front), pool and bucket (the level)" of an id in two cores
-pub record AlikeIn (x y : Core) (id : ℕ) : Type 0 where
-  pub queue : clientOf x id .queue ≡ clientOf y id .queue
-  pub pool : clientOf x id .pool ≡ clientOf y id .pool
-  pub level : clientOf x id .level ≡ clientOf y id .level
+pub record Run : Type 0 where
+  pub trace : Trace
+  pub control : Control
+  pub tables : Tables
+  pub reached : Reached trace control tables
 
--- What is logged of two runs is the same: their answers are those of the definitions. And so is what their tables mean of the
--- chosen client, and of every id that is indifferent at the end.
-pub record CodeSame (chosen : ℕ) (H K : History) (x y : Core) : Type 0 where
-  pub logs : LooksSame scheduler chosen H K
-  pub chosenAlike : AlikeIn x y chosen
-  pub indifferentAlike : (id : ℕ) → T (indifferentAt scheduler id H) → AlikeIn x y id
+-- what the tables of a run mean
+unfoldable pub coreAfter : Run → Core
+coreAfter run = coreOf (run .control) (run .tables)
 
+-- a run with one call more
+abbrev pub further : (run : Run) {call : Call} {r : Answered} {u : Tables} → Meets call (run .control) (run .tables) r u → Run
+further run {call} {r} {u} m = record {
+  trace = run .trace and dealing call (run .control) (run .tables) r;
+  control = r .control;
+  tables = u;
+  reached = called (run .reached) m;
+}
+
+-- "A place is a call's position in its history, or the history's end": the run up to there.
+pub data PlaceOf (place : Run) : Run → Type 0 where
+  end : PlaceOf place place
+  before : {whole : Run} {call : Call} {r : Answered} {u : Tables} (m : Meets call (whole .control) (whole .tables) r u)
+      → PlaceOf place whole
+      → PlaceOf place (further whole m)
+
+-- Any chosen client, any two runs whose kept calls "agree in order and arguments", and any place of either at which both have
+-- as many kept calls behind them.
 unfoldable pub CodeSameness : Type 0
 CodeSameness =
-    (chosen : ℕ) (H K : History) (c d : Control) (t u : Tables)
-    → Run H c t
-    → Run K d u
-    → kept scheduler chosen H ≡ kept scheduler chosen K
-    → CodeSame chosen H K (coreOf c t) (coreOf d u)
+    (chosen : ℕ) (R Q : Run)
+    → kept chosen (R .trace) ≡ kept chosen (Q .trace)
+    → (r q : Run)
+    → PlaceOf r R
+    → PlaceOf q Q
+    → calls (kept chosen (r .trace)) ≡ calls (kept chosen (q .trace))
+    → LooksSame chosen (r .trace) (holdingsOf (coreAfter r)) (q .trace) (holdingsOf (coreAfter q))
+
+-- the calls of a trace, without what they got
+unfoldable pub callsOf : Trace → History
+callsOf begin = start
+callsOf (t and d) = callsOf t then d .call
+
+-- Demand 2 for the code: a run is the trace that the definitions give to its calls, and its tables mean the core that they reach.
+pub record Defined (run : Run) : Type 0 where
+  pub dealt : run .trace ≡ traceOf scheduler (callsOf (run .trace))
+  pub core : coreAfter run ≡ after scheduler (callsOf (run .trace))
+
+unfoldable pub CodeDefined : Type 0
+CodeDefined = (run : Run) → Defined run
+
+-- No run is one of the wrong versions: where a history shows that a scheduler differs, any run of that history and the call
+-- behind it got another answer than that scheduler gives.
+unfoldable pub NeverWrong : Type 1
+NeverWrong =
+    (S : Scheduler) (wrong : Differs S) (run : Run) (before : Trace) (last : Dealing)
+    → run .trace ≡ before and last
+    → callsOf before ≡ wrong .history
+    → last .call ≡ wrong .call
+    → last .answer ≢ answerAt S (wrong .history) (wrong .call)

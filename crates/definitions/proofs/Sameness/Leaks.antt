@@ -11,8 +11,8 @@ use Rattle.definitions.specs.Sizes.{indifferentType, privateType}
 use Rattle.definitions.specs.Answers.{shown}
 use Rattle.definitions.specs.History.{History, start, _then_, end, Pick, noSlot, byRule1, byRule2, byRule3, after, answerAt, dealingAt, traceOf}
 use Rattle.definitions.specs.Sameness.{isTick, names, indifferentBy, indifferentAt, isStruck, kept, log, departure, Sameness}
-use Rattle.definitions.specs.Altered.{withTick, slotBy, withArrive, arriveIf, withChange}
-use Rattle.definitions.specs.Leaks.{waitingOnly, turnOfWaiting, drawnAmongWaiting, nextPrivate, idles, turnHandedOn, idleHandedOn, roomInStore, tokenLeft, oneStore, queueKept, orderKept, changeKeeping, queueOverChange, Leaking}
+use Rattle.definitions.specs.Altered.{withTick, slotBy, withArrive, tokenLeft, arriveIf, withChange}
+use Rattle.definitions.specs.Leaks.{waitingOnly, turnOfWaiting, drawnAmongWaiting, nextPrivate, idles, turnHandedOn, idleHandedOn, roomInStore, oneStore, queueKept, orderKept, changeKeeping, queueOverChange, Leaking}
 use Rattle.definitions.proofs.Everything.{everything}
 
 -- two private clients, and what the second may do unseen
