@@ -1,7 +1,8 @@
--- Laws of the sample. The span is what is left of all values without the remainder; the target lies below the sum; the
--- generator is stepped once, and once more for each throw, of which there are at most eight. By induction on the throws that are left. Assumes nothing.
+-- Laws of the sample, and the claims of specs/Evenness on its steps. The span is what is left of all values without the remainder; the
+-- target lies below the sum; the generator is stepped once, and once more for each throw, of which there are at most eight. By
+-- induction on the throws that are left. Assumes nothing.
 use Prim.Native.Nat.{ℕ, zero, suc, _+_, _-_, _/_, _%_, _^_, _≤_, _<_}
-use mathlib.Core.Path.{_≡_, refl}
+use mathlib.Core.Path.{_≡_, refl, ap}
 use mathlib.Core.Bool.{Bool, true, false, not}
 use native.Mathlib.Nat.{mul-zero, mod-lt, div-add-mod'}
 use native.Mathlib.Omega.{arith}
@@ -10,7 +11,8 @@ use borrow.Author.Tests.{lt-ltb, ltb-true, ltb-false, not-false}
 use Rattle.definitions.specs.Sizes.{shares, throws}
 use Rattle.definitions.specs.Generator.{xorLeft, xorRight, stepped}
 use Rattle.definitions.specs.Tick.{anyBelow}
-use Rattle.definitions.specs.Sample.{Sample, evenSpan, counted, sampleFrom, sample}
+use Rattle.definitions.specs.Sample.{evenSpan, counted, sampleFrom, sample}
+use Rattle.definitions.specs.Evenness.{steppedBy, Sampled, Sampling, AtMostTwoSteps}
 use Rattle.definitions.proofs.Laws.Tests.{cond-both}
 use Rattle.definitions.proofs.Laws.Sums.{anyBelow-false}
 
@@ -43,51 +45,30 @@ module _ (sum steps value : ℕ) where
   unfolding sampleFrom
   sampleFrom-thrown left e = rw e
 
--- a generator that is stepped so often
-unfoldable pub steppedBy : ℕ → ℕ → ℕ
-steppedBy zero value = value
-steppedBy (suc n) value = steppedBy n (stepped value)
+-- from a value that so many steps gave, where so many more may still be thrown away
+pub sampleFrom-sampled : (sum generator left steps value : ℕ) → value ≡ steppedBy steps generator
+    → Sampled sum generator steps (steps + left) (sampleFrom sum left steps value)
+unfolding sampleFrom steppedBy
+sampleFrom-sampled sum generator zero steps value e =
+    record { stepsLow = omega arith; stepsHigh = omega arith; generator-is = e; target-is = refl }
+sampleFrom-sampled sum generator (suc left) steps value e =
+    let later = sampleFrom-sampled sum generator left (suc steps) (stepped value) (ap stepped e) in
+    cond-both (Sampled sum generator steps (steps + suc left)) (ltb value (evenSpan sum))
+    (record { stepsLow = omega arith; stepsHigh = omega arith; generator-is = e; target-is = refl })
+    (record {
+      stepsLow = omega (arith, later .stepsLow);
+      stepsHigh = omega (arith, later .stepsHigh);
+      generator-is = later .generator-is;
+      target-is = later .target-is;
+    })
 
--- what holds of a sample that is taken from a value, given by so many steps, where so many may still be thrown away
-pub record Sampled (sum left steps value : ℕ) (s : Sample) : Type 0 where
-  pub least : steps ≤ s .steps
-  pub most : s .steps ≤ steps + left
-  pub kept : s .generator ≡ steppedBy (s .steps - steps) value
-  pub remainder : s .target ≡ s .generator % sum
+pub sample-sampled : Sampling
+unfolding sample steppedBy
+sample-sampled sum generator = sampleFrom-sampled sum generator throws 1 (stepped generator) refl
 
-counted-sampled : (sum left steps value : ℕ) → Sampled sum left steps value (counted sum steps value)
-unfolding steppedBy
-counted-sampled sum left steps value =
-    let same : steps - steps ≡ 0 = omega arith in
-    record { least = omega arith; most = omega arith; kept = rw same; remainder = refl }
-
-later-sampled : (sum left steps value : ℕ) (s : Sample) → Sampled sum left (suc steps) (stepped value) s
-    → Sampled sum (suc left) steps value s
-unfolding steppedBy
-later-sampled sum left steps value s h =
-    let more : s .steps - steps ≡ suc (s .steps - suc steps) = omega (arith, h .least) in
-    record {
-      least = omega (arith, h .least);
-      most = omega (arith, h .most);
-      kept = rw more (h .kept);
-      remainder = h .remainder;
-    }
-
-pub sampleFrom-sampled : (sum left steps value : ℕ) → Sampled sum left steps value (sampleFrom sum left steps value)
-unfolding sampleFrom
-sampleFrom-sampled sum zero steps value = counted-sampled sum zero steps value
-sampleFrom-sampled sum (suc left) steps value =
-    cond-both (Sampled sum (suc left) steps value) (ltb value (evenSpan sum)) (counted-sampled sum (suc left) steps value)
-    (later-sampled sum left steps value _ (sampleFrom-sampled sum left (suc steps) (stepped value)))
-
-module _ (sum generator : ℕ) where
-  pub sample-sampled : Sampled sum throws 1 (stepped generator) (sample sum generator)
-  unfolding sample
-  sample-sampled = sampleFrom-sampled sum throws 1 (stepped generator)
-
-  -- the target is below the sum
-  pub sample-below : 0 < sum → sample sum generator .target < sum
-  sample-below some = rw (sample-sampled .remainder) (mod-lt (sample sum generator .generator) some)
+-- the target is below the sum
+pub sample-below : (sum generator : ℕ) → 0 < sum → sample sum generator .target < sum
+sample-below sum generator some = rw (sample-sampled sum generator .target-is) (mod-lt (sample sum generator .generator) some)
 
 -- ---- no sum of rates throws away two values in a row: after one of the highest values the generator gives a low one
 
@@ -122,6 +103,6 @@ module _ (sum : ℕ) (some : 0 < sum) (low : sum ≤ shares) where
           let counts = lt-ltb (stepped value) (evenSpan sum) (evenSpan-high sum (stepped value) some (omega (arith, next))) in
           rw (sampleFrom-thrown sum 1 value left e, sampleFrom-counted sum 2 (stepped value) left counts) (omega arith)
 
-  pub sample-twice : (generator : ℕ) → stepped generator < 2 ^ 32 → sample sum generator .steps ≤ 2
-  unfolding sample
-  sample-twice generator fits = sampleFrom-twice throws (stepped generator) fits
+pub sample-twice : AtMostTwoSteps
+unfolding sample
+sample-twice sum generator some low fits = sampleFrom-twice sum some low throws (stepped generator) fits

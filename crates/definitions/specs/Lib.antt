@@ -23,6 +23,8 @@ pub mod Limits
 pub mod Bound
 pub mod Evenness
 pub mod Cases
+-- what is easy to get wrong
+pub mod Facts
 -- what the claims rule out
 pub mod Altered
 pub mod Leaks

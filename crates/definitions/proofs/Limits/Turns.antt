@@ -15,6 +15,7 @@ use Rattle.definitions.specs.Client.{Kind, absent, indifferent, private,
 use Rattle.definitions.specs.State.{State, earliest}
 use Rattle.definitions.specs.Tick.{contends, Rule, rule1, rule2, rule3, ruleOf, contenderRate, privateRate, Turn, firstTurn, turnBy, turn, padding, sent, outcomeBy, onTick}
 use Rattle.definitions.specs.Limits.{standing, ordered, StateLimits}
+use Rattle.definitions.specs.Facts.{Rule1Sends, Rule2Private}
 use Rattle.definitions.proofs.Laws.Tests.{lt-cases, cond-both}
 use Rattle.definitions.proofs.Laws.Clients.{private-kind}
 use Rattle.definitions.proofs.Laws.Rules.{rule-cases, turn-rule}
@@ -22,13 +23,7 @@ use Rattle.definitions.proofs.Draw.{weighing, draw-among}
 use Rattle.definitions.proofs.Limits.Order.{standing-first-same}
 use Rattle.definitions.proofs.Limits.Client.{Parts, RateBy, limits-parts}
 use Rattle.definitions.proofs.Limits.Slots.{ordered-silent, ordered-high}
-
--- a client of rule 1: indifferent, with a packet first in its queue
-pub record Contender (c : Client) : Type 0 where
-  pub indifferently : c .kind ≡ indifferent
-  pub packet : Packet
-  pub behind : List Packet
-  pub waiting : c .queue ≡ packet ∷ behind
+pub use Rattle.definitions.specs.Facts.{Contender}
 
 pub contends-contender : (c : Client) → contends c ≡ true → Contender c
 unfolding contends
@@ -124,7 +119,7 @@ module _ (s : State) (known : StateLimits s) where
       (λ none id below secret. private-picked id below secret)
       (λ none noneSecret. tt)
 
-  -- A slot by rule 1 is an indifferent client's, and sends the first packet of its queue, without padding.
+  -- whom rule 1 picks
   module _ (e : ruleOf (s .clients) ≡ rule1) where
     rule1-picked : PickedBy rule1 s (turn s .id)
     rule1-picked = subst (λ (r : Rule). PickedBy r s (turn s .id)) e turn-picked
@@ -135,14 +130,7 @@ module _ (s : State) (known : StateLimits s) where
     pub rule1-contender : Contender (s .clients (turn s .id))
     rule1-contender = contends-contender (s .clients (turn s .id)) (rule1-picked .1)
 
-    pub rule1-answer : onTick s .answer ≡ Slot (Real (turn s .id) (rule1-contender .packet) 0)
-    unfolding onTick outcomeBy
-    rule1-answer =
-        ap Slot
-        (ap (λ (r : Rule). outcomeBy r (turn s .id) (s .clients)) (turn-rule s ∙ e)
-        ∙ contender-sent (turn s .id) (s .clients (turn s .id)) rule1-contender)
-
-  -- A slot by rule 2 is a private client's.
+  -- whom rule 2 picks
   module _ (e : ruleOf (s .clients) ≡ rule2) where
     rule2-picked : PickedBy rule2 s (turn s .id)
     rule2-picked = subst (λ (r : Rule). PickedBy r s (turn s .id)) e turn-picked
@@ -150,5 +138,15 @@ module _ (s : State) (known : StateLimits s) where
     pub rule2-below : turn s .id < ids
     rule2-below = rule2-picked .0
 
-    pub rule2-private : s .clients (turn s .id) .kind ≡ private
-    rule2-private = private-kind (s .clients (turn s .id) .kind) (rule2-picked .1)
+pub rule1-answer : Rule1Sends
+unfolding onTick outcomeBy
+rule1-answer s known e =
+    let picked = rule1-contender s known e in (
+      picked,
+      ap Slot
+          (ap (λ (r : Rule). outcomeBy r (turn s .id) (s .clients)) (turn-rule s ∙ e)
+          ∙ contender-sent (turn s .id) (s .clients (turn s .id)) picked),
+    )
+
+pub rule2-private : Rule2Private
+rule2-private s known e = private-kind (s .clients (turn s .id) .kind) (rule2-picked s known e .1)
