@@ -2,6 +2,7 @@
 
 -- laws of the definitions, cited by all that follows
 pub mod Laws
+pub mod Generator
 pub mod Sample
 pub mod Draw
 pub mod Evenness
@@ -11,6 +12,7 @@ pub mod Facts
 pub mod Cases
 -- the claims of all histories
 pub mod Limits
+pub mod Fits
 pub mod Bound
 pub mod Sameness
 -- the versions that have to break the contract

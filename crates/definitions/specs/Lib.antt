@@ -20,6 +20,7 @@ pub mod Core
 pub mod History
 pub mod Sameness
 pub mod Limits
+pub mod Fits
 pub mod Bound
 pub mod Evenness
 pub mod Cases

@@ -1,6 +1,14 @@
 -- The sizes that the papers fix, each under one name. They are shut: a proof that needs the digits has to say so.
 use Prim.Native.Nat.{ℕ}
 
+-- "calls take unsigned 32-bit numbers"
+unfoldable pub numberLimit : ℕ
+numberLimit = 4294967295
+
+-- "a handle (any 32-bit number)"
+unfoldable pub handleLimit : ℕ
+handleLimit = 4294967295
+
 -- "Ids run from 0 to 63."
 unfoldable pub ids : ℕ
 ids = 64

@@ -1,0 +1,154 @@
+-- Every state that a history of numbers within their limits reaches has its generator and its handles within theirs.
+-- By induction over the history: an open's seed is not 0, a tick steps the generator or leaves it, and only an arrival brings a handle.
+use Prim.Native.Nat.{ℕ, zero, suc, _≤_}
+use mathlib.Core.Path.{refl}
+use mathlib.Core.Bool.{false≢true}
+use mathlib.Core.List.{List, [], _∷_, _++_, tail}
+use native.Mathlib.Omega.{arith}
+use lib.Dec.{eqb}
+use Rattle.definitions.specs.declared.Packet.{Packet}
+use Rattle.definitions.specs.declared.Call.{Call}
+use Rattle.definitions.specs.declared.Call.the-variants.{Open, Join, Change, Leave, Load, Arrive, Tick}
+use Rattle.definitions.specs.Sizes.{numberLimit, handleLimit, firstCome}
+use Rattle.definitions.specs.Generator.{stepped}
+use Rattle.definitions.specs.Draw.{draw}
+use Rattle.definitions.specs.Client.{kindOf, sameKind, Client, nobody, joining, retuned, changed, loaded, queued, spent, refilled}
+use Rattle.definitions.specs.State.{State, Core, unopened, running, fresh, without}
+use Rattle.definitions.specs.Checks.{Check, accepted, checked, openChecks, joinChecks, changeChecks, leaveChecks, loadChecks, arriveChecks}
+use Rattle.definitions.specs.Calls.{onOpen, updated, onJoin, orderAfterChange, onChange, onLeave, onLoad, orderAfterArrival, onArrive}
+use Rattle.definitions.specs.Tick.{Rule, rule1, rule2, rule3, ruleOf, Turn, firstTurn, turnBy, turn, refillAll, slotted, onTick}
+use Rattle.definitions.specs.Core.{step}
+use Rattle.definitions.specs.History.{start, _then_, scheduler, after}
+use Rattle.definitions.specs.Fits.{CallFits, HandlesFit, StateFits, CoreFits, Fits, FitsMet, FitsNeeded}
+use Rattle.definitions.proofs.Everything.{everything}
+use Rattle.definitions.proofs.Laws.Tests.{cond-both}
+use Rattle.definitions.proofs.Laws.Checked.{Passed, checked-cases}
+use Rattle.definitions.proofs.Laws.Clients.{put-cases, clientsAfter-cases}
+use Rattle.definitions.proofs.Generator.{Seeded, stepped-seeded}
+use Rattle.definitions.proofs.Sample.{steppedBy, sample-sampled}
+
+-- The generator: a draw steps it, up to nine times.
+
+steppedBy-seeded : (n v : ℕ) → Seeded v → Seeded (steppedBy n v)
+unfolding steppedBy
+steppedBy-seeded zero v seeded = seeded
+steppedBy-seeded (suc n) v seeded = steppedBy-seeded n (stepped v) (stepped-seeded v seeded)
+
+draw-seeded : (generator : ℕ) (weight : ℕ → ℕ) → Seeded generator → Seeded (draw generator weight .sample .generator)
+unfolding draw
+draw-seeded generator weight seeded =
+    rw (sample-sampled _ generator .kept) (steppedBy-seeded _ (stepped generator) (stepped-seeded generator seeded))
+
+turnBy-seeded : (rule : Rule) (s : State) → Seeded (s .generator) → Seeded (turnBy rule s .generator)
+unfolding turnBy firstTurn
+turnBy-seeded rule1 s seeded =
+    cond-both (λ (t : Turn). Seeded (t .generator)) (eqb (s .discipline) firstCome) seeded (draw-seeded (s .generator) _ seeded)
+turnBy-seeded rule2 s seeded = draw-seeded (s .generator) _ seeded
+turnBy-seeded rule3 s seeded = seeded
+
+-- The handles: a queue gains a packet at its end and loses its first.
+
+handles-push : (queue : List Packet) (p : Packet) → HandlesFit queue → HandlesFit (p ∷ []) → HandlesFit (queue ++ (p ∷ []))
+handles-push [] p fits own = own
+handles-push (q ∷ qs) p fits own = (fits .0, handles-push qs p (fits .1) own)
+
+handles-tail : (queue : List Packet) → HandlesFit queue → HandlesFit (tail queue)
+handles-tail [] fits = fits
+handles-tail (p ∷ ps) fits = fits .1
+
+module _ (s : State) (known : StateFits s) where
+  updated-fits : (id : ℕ) (c : Client) (order : List ℕ) → HandlesFit (c .queue) → StateFits (updated s id c order)
+  unfolding updated
+  updated-fits id c order fits = record {
+    generatorLow = known .generatorLow;
+    generatorHigh = known .generatorHigh;
+    handlesHigh = put-cases (s .clients) id c (λ j d. HandlesFit (d .queue)) fits (λ j other. known .handlesHigh j);
+  }
+
+  call-fits : (cs : List Check) (id : ℕ) (c : Client) (order : List ℕ)
+      → HandlesFit (c .queue)
+      → CoreFits (checked cs (running s) (accepted (updated s id c order)) .core)
+  call-fits cs id c order fits =
+      checked-cases (λ r. CoreFits (r .core)) cs (running s) (accepted (updated s id c order))
+      (λ number. known)
+      (λ passed. updated-fits id c order fits)
+
+  slotted-fits : (t : Turn) → Seeded (t .generator) → StateFits (slotted s t)
+  unfolding slotted refillAll refilled spent
+  slotted-fits t seeded = record {
+    generatorLow = seeded .0;
+    generatorHigh = seeded .1;
+    handlesHigh = clientsAfter-cases (λ j d. HandlesFit (d .queue)) (t .rule) (t .id) (s .clients)
+        (known .handlesHigh)
+        (handles-tail (s .clients (t .id) .queue) (known .handlesHigh (t .id)));
+  }
+
+  tick-fits : CoreFits (onTick s .core)
+  unfolding onTick turn
+  tick-fits = slotted-fits (turn s) (turnBy-seeded (ruleOf (s .clients)) s (known .generatorLow, known .generatorHigh))
+
+  changed-fits : (id type rate burst : ℕ) → HandlesFit (changed (s .clients id) type rate burst .queue)
+  unfolding changed retuned joining
+  changed-fits id type rate burst =
+      cond-both (λ (c : Client). HandlesFit (c .queue)) (sameKind (s .clients id .kind) (kindOf type)) (known .handlesHigh id) tt
+
+-- check 3 fails at 0
+seed-low : (threshold discipline seed : ℕ) → Passed (openChecks threshold discipline seed) → 1 ≤ seed
+unfolding openChecks
+seed-low threshold discipline zero passed = absurd (false≢true (passed .1 .1 .0))
+seed-low threshold discipline (suc n) passed = omega arith
+
+fresh-fits : (threshold discipline seed : ℕ)
+    → CallFits (Open threshold discipline seed)
+    → Passed (openChecks threshold discipline seed)
+    → StateFits (fresh threshold discipline seed)
+unfolding fresh
+fresh-fits threshold discipline seed fits passed = record {
+  generatorLow = omega (arith, seed-low threshold discipline seed passed);
+  generatorHigh = omega (arith, fits .2);
+  handlesHigh = λ id. tt;
+}
+
+pub step-fits : (core : Core) → CoreFits core → (c : Call) → CallFits c → CoreFits (step core c .core)
+unfolding step onOpen onJoin onChange onLeave onLoad onArrive joining loaded queued
+step-fits core known (Open threshold discipline seed) fits =
+    checked-cases (λ r. CoreFits (r .core)) (openChecks threshold discipline seed) core
+    (accepted (fresh threshold discipline seed))
+    (λ number. known)
+    (fresh-fits threshold discipline seed fits)
+step-fits unopened known (Join id type rate burst) fits = tt
+step-fits unopened known (Change id type rate burst) fits = tt
+step-fits unopened known (Leave id) fits = tt
+step-fits unopened known (Load id dummies) fits = tt
+step-fits unopened known (Arrive id packet) fits = tt
+step-fits unopened known Tick fits = tt
+step-fits (running s) known (Join id type rate burst) fits =
+    call-fits s known (joinChecks s id type rate burst) id (joining type rate burst) (s .order) tt
+step-fits (running s) known (Change id type rate burst) fits =
+    call-fits s known (changeChecks s id type rate burst) id (changed (s .clients id) type rate burst) (orderAfterChange s id type)
+    (changed-fits s known id type rate burst)
+step-fits (running s) known (Leave id) fits = call-fits s known (leaveChecks s id) id nobody (without id (s .order)) tt
+step-fits (running s) known (Load id dummies) fits =
+    call-fits s known (loadChecks s id dummies) id (loaded (s .clients id) dummies) (s .order) (known .handlesHigh id)
+step-fits (running s) known (Arrive id packet) fits =
+    call-fits s known (arriveChecks s id packet) id (queued (s .clients id) packet) (orderAfterArrival s id)
+    (handles-push (s .clients id .queue) packet (known .handlesHigh id) (fits .1, tt))
+step-fits (running s) known Tick fits = tick-fits s known
+
+pub fits : Fits
+unfolding Fits after
+fits start all = tt
+fits (h then c) all = step-fits (after scheduler h) (fits h (all .0)) c (all .1)
+
+-- the examples are computed
+
+pub fits-met : FitsMet
+unfolding everything after numberLimit handleLimit
+fits-met = record { fits = omega arith; generator = refl; waits = refl }
+
+pub fits-needed : FitsNeeded
+unfolding everything after numberLimit handleLimit
+fits-needed = record {
+  seed = λ claim. omega (arith, claim .generatorHigh);
+  handle = λ claim. omega (arith, claim .handlesHigh 2 .0);
+}

@@ -1,0 +1,65 @@
+-- Limits that rest on the width of a call's numbers (paper 01: "calls take unsigned 32-bit numbers"). The definitions take any
+-- number. `Fits` is claimed of every state that a history of such calls reaches. `FitsMet` shows such a history, and `FitsNeeded`
+-- that a seed or a handle past its limit breaks the claim.
+use Prim.Native.Nat.{ℕ, suc, _≤_}
+use mathlib.Core.Path.{_≡_}
+use mathlib.Core.List.{List, [], _∷_}
+use Rattle.definitions.specs.declared.Packet.{Packet}
+use Rattle.definitions.specs.declared.Call.{Call}
+use Rattle.definitions.specs.declared.Call.the-variants.{Open, Join, Change, Leave, Load, Arrive, Tick}
+use Rattle.definitions.specs.Sizes.{numberLimit, handleLimit, shares, longest, privateType, firstCome}
+use Rattle.definitions.specs.State.{State, Core, unopened, running}
+use Rattle.definitions.specs.History.{History, start, _then_, clientOf, generatorOf, scheduler, after}
+
+-- every number of a call is within its limit; a handle has a limit of its own
+abbrev pub CallFits : Call → Type 0
+CallFits (Open threshold discipline seed) = (threshold ≤ numberLimit) × (discipline ≤ numberLimit) × (seed ≤ numberLimit)
+CallFits (Join id type rate burst) = (id ≤ numberLimit) × (type ≤ numberLimit) × (rate ≤ numberLimit) × (burst ≤ numberLimit)
+CallFits (Change id type rate burst) = (id ≤ numberLimit) × (type ≤ numberLimit) × (rate ≤ numberLimit) × (burst ≤ numberLimit)
+CallFits (Leave id) = id ≤ numberLimit
+CallFits (Load id dummies) = (id ≤ numberLimit) × (dummies ≤ numberLimit)
+CallFits (Arrive id packet) = (id ≤ numberLimit) × (packet .handle ≤ handleLimit) × (packet .length ≤ numberLimit)
+CallFits Tick = Unit {0}
+
+-- every call of a history is such a call, a refused one too
+abbrev pub HistoryFits : History → Type 0
+HistoryFits start = Unit {0}
+HistoryFits (h then c) = HistoryFits h × CallFits c
+
+-- "A packet is a handle (any 32-bit number) and a length in bytes."
+abbrev pub HandlesFit : List Packet → Type 0
+HandlesFit [] = Unit {0}
+HandlesFit (p ∷ ps) = (p .handle ≤ handleLimit) × HandlesFit ps
+
+pub record StateFits (s : State) : Type 0 where
+  -- "the generator value G .. is 1 to 4294967295" (paper 02, S-2)
+  pub generatorLow : 1 ≤ s .generator
+  pub generatorHigh : s .generator ≤ numberLimit
+  -- whoever the packet waits for
+  pub handlesHigh : (id : ℕ) → HandlesFit (s .clients id .queue)
+
+abbrev pub CoreFits : Core → Type 0
+CoreFits unopened = Unit {0}
+CoreFits (running s) = StateFits s
+
+unfoldable pub Fits : Type 0
+Fits = (h : History) → HistoryFits h → CoreFits (after scheduler h)
+
+-- a history with a seed and a handle: a private client joins, a tick draws it, and its packet arrives
+abbrev pub long : ℕ → Packet
+long handle = record { handle = handle; length = longest }
+
+abbrev pub trial : ℕ → ℕ → History
+trial seed handle =
+    start then Open shares firstCome seed then Join 2 privateType 300 0 then Tick then Arrive 2 (long handle)
+
+-- With the highest seed and the highest handle it fits. After it a core runs, whose generator the tick has stepped, and the packet waits.
+pub record FitsMet : Type 0 where
+  pub fits : HistoryFits (trial numberLimit handleLimit)
+  pub generator : generatorOf (after scheduler (trial numberLimit handleLimit)) ≡ 253983
+  pub waits : clientOf (after scheduler (trial numberLimit handleLimit)) 2 .queue ≡ long handleLimit ∷ []
+
+-- With one more of either, what is claimed does not hold.
+pub record FitsNeeded : Type 0 where
+  pub seed : CoreFits (after scheduler (trial (suc numberLimit) handleLimit)) → ⊥
+  pub handle : CoreFits (after scheduler (trial numberLimit (suc handleLimit))) → ⊥
