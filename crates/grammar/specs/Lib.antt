@@ -4,4 +4,6 @@ pub mod Numerals
 pub mod Templates
 pub mod Grammar
 pub mod Printout
+pub mod Lines
 pub mod Sheet
+pub mod Examples
