@@ -11,7 +11,8 @@ use borrow.Author.Tests.{ltb-true, ltb-false, lt-ltb, le-ltb, le-leb, ne-eqb}
 use lib.Dec.{ltb, eqb}
 use lib.ListN.{length, length-append}
 use Rattle.definitions.specs.Checks.{within}
-use Rattle.definitions.proofs.Laws.Tests.{lt-cases}
+use Rattle.definitions.proofs.Laws.Tests.{true-false, lt-cases}
+use Rattle.grammar.specs.Bytes.{Unbroken}
 use Rattle.grammar.specs.Numerals.{isDigit, leading, behind, isNumeral, valueFrom, digits, decimal}
 
 digit : (d : ℕ) → d < 10 → isDigit (48 + d) ≡ true
@@ -108,6 +109,16 @@ decimal-numeral (suc n) =
 pub decimal-value : (n : ℕ) → valueFrom 0 (decimal n) ≡ n
 unfolding decimal
 decimal-value n = digits-decimal (suc n) n (omega arith) .value
+
+-- none of the digits is a line feed
+digits-unbroken : (ds : List ℕ) → AllDigits ds → Unbroken ds
+unfolding isDigit within
+digits-unbroken [] a = tt
+digits-unbroken (d ∷ ds) a = (λ e. true-false (a .0) (rw e), digits-unbroken ds (a .1))
+
+pub decimal-unbroken : (n : ℕ) → Unbroken (decimal n)
+unfolding decimal
+decimal-unbroken n = digits-unbroken (decimal n) (digits-decimal (suc n) n (omega arith) .all)
 
 -- ---- digit by digit: those of n / 10 and then the last one, and how many there are
 

@@ -1,6 +1,6 @@
 -- A template that is filled with numbers reads them back, where each gap ends before a byte that is no digit. A template that
 -- differs from it at a fixed byte reads nothing there: up to that byte both take the same bytes and numbers. Both are tests.
-use Prim.Native.Nat.{ℕ, suc}
+use Prim.Native.Nat.{ℕ}
 use mathlib.Core.Path.{_≡_, refl, sym, _∙_}
 use mathlib.Core.Bool.{Bool, true, false, cond, not, _&&_, true≢false, and-eq-true-iff}
 use mathlib.Core.List.{List, [], _∷_, _++_}
@@ -10,14 +10,9 @@ use borrow.Author.Tests.{eq-eqb, not-true}
 use lib.Dec.{eqb}
 use lib.ListN.{length}
 use Rattle.grammar.specs.Numerals.{isDigit, decimal}
-use Rattle.grammar.specs.Templates.{gap, filled, withNumber, matched}
+use Rattle.grammar.specs.Templates.{gap, gaps, filled, withNumber, matched}
 use Rattle.grammar.proofs.Decimals.{Bare, decimal-leading, decimal-behind, decimal-numeral, decimal-value}
 use Rattle.grammar.proofs.Matching.{gap-fits, byte-fits, byte-misfits}
-
--- how many numbers a template takes
-unfoldable pub gaps : List ℕ → ℕ
-gaps [] = 0
-gaps (b ∷ bs) = cond (eqb b gap) (suc (gaps bs)) (gaps bs)
 
 -- whether a gap may stand before some bytes of a template: they begin with neither a digit nor a gap
 unfoldable pub clear : List ℕ → Bool

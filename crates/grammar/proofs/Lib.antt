@@ -1,8 +1,9 @@
-pub mod Example
+pub mod Examples
 pub mod Matching
 pub mod Decimals
 pub mod Filling
 pub mod RoundTrip
 pub mod Lines
 pub mod Rooms
+pub mod Splits
 pub mod Sheets

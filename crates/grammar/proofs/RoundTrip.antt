@@ -2,16 +2,14 @@
 -- The rule's template reads its numbers back, and the rules before it differ from it at a fixed byte, which antt computes.
 use Prim.Native.Nat.{ℕ}
 use mathlib.Core.Path.{_≡_, refl, _∙_}
-use mathlib.Core.Bool.{Bool, true, false, _&&_, and-eq-true-iff}
+use mathlib.Core.Bool.{Bool, true, _&&_, and-eq-true-iff}
 use mathlib.Core.List.{List, [], _∷_, List·Memᴰ, List·Memᴰ·head, List·Memᴰ·tail}
-use lib.ListN.{length}
 use Rattle.definitions.specs.Checks.{within}
-use Rattle.grammar.specs.declared.Line.the-variants.{Form, Refused}
 use Rattle.grammar.specs.Bytes.{bytes}
 use Rattle.grammar.specs.Numerals.{isDigit}
-use Rattle.grammar.specs.Templates.{filled}
-use Rattle.grammar.specs.Grammar.{Rule, rules, numbersFit, sized, parsedBy, parsed}
-use Rattle.grammar.proofs.Filling.{gaps, clear, spaced, apart, filled-matched, apart-matched}
+use Rattle.grammar.specs.Grammar.{Rule, rules, sized, parsedBy, parsed}
+use Rattle.grammar.specs.RoundTrip.{written, Takes, RoundTrip, TooLarge}
+use Rattle.grammar.proofs.Filling.{clear, spaced, apart, filled-matched, apart-matched}
 
 -- whether a rule differs from each of some others, and each of some rules from those before it
 unfoldable pub apartFrom : Rule → List Rule → Bool
@@ -25,13 +23,6 @@ separate (q ∷ rs) = spaced (bytes (q .template)) && (apartFrom q rs && separat
 rules-separate : separate rules ≡ true
 unfolding separate apartFrom apart spaced clear rules isDigit within
 rules-separate = refl
-
--- what a rule writes
-unfoldable pub written : Rule → List ℕ → List ℕ
-written r numbers = filled (bytes (r .template)) numbers
-
-abbrev pub Takes : Rule → List ℕ → Type 0
-Takes r numbers = length numbers ≡ gaps (bytes (r .template))
 
 apart-from : (q : Rule) {r : Rule} {rs : List Rule} → List·Memᴰ r rs → apartFrom q rs ≡ true
     → apart (bytes (q .template)) (bytes (r .template)) ≡ true
@@ -70,12 +61,10 @@ written-read {r} (List·Memᴰ·tail {x} {xs} m) e numbers k =
     (separate-spaced m (s .others)) k)
     (written-read m (s .others) numbers k)
 
--- for each rule of the grammar and each list of as many numbers as it takes
-module _ (r : Rule) (m : List·Memᴰ r rules) (numbers : List ℕ) (k : Takes r numbers) where
-  pub round-trip : numbersFit numbers ≡ true → parsed (written r numbers) ≡ Form (r .call numbers)
-  unfolding parsed sized
-  round-trip h = written-read m rules-separate numbers k ∙ rw h
+pub round-trip : RoundTrip
+unfolding RoundTrip parsed sized
+round-trip r m numbers k fit = written-read m rules-separate numbers k ∙ rw fit
 
-  pub too-large : numbersFit numbers ≡ false → parsed (written r numbers) ≡ Refused 17
-  unfolding parsed sized
-  too-large h = written-read m rules-separate numbers k ∙ rw h
+pub too-large : TooLarge
+unfolding TooLarge parsed sized
+too-large r m numbers k large = written-read m rules-separate numbers k ∙ rw large

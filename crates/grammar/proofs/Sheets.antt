@@ -1,29 +1,33 @@
--- Demand 3 on paper, from demand 3: the printed lines are the answers', printed. And the printout is those lines. Assumes
--- nothing.
-use Prim.Native.Nat.{ℕ}
+-- Demand 3 on paper, from demand 3: a printout falls into the lines that the history's calls print, one for each line of the text,
+-- so what is noted of a sheet is the log of that history, printed. Assumes nothing.
+use Prim.Native.Nat.{ℕ, zero, suc, _≤_}
 use mathlib.Core.Path.{_≡_, refl, sym, ap, _∙_}
 use mathlib.Core.Bool.{Bool, true, false, cond}
-use mathlib.Core.List.{List, [], _∷_, _++_, map}
+use mathlib.Core.Logic.{_≢_}
+use mathlib.Core.List.{List, [], _∷_, _++_, map, zip, zipWith, flatten, reverse, reverseAux, reverseAux-append, reverse-reverse, append-assoc, append-nil}
+use native.Mathlib.Omega.{arith}
 use lib.Dec.{eqb}
-use lib.ListN.{length}
-use borrow.Author.Tests.{le-ltb}
-use Rattle.definitions.specs.declared.Call.{Call}
+use lib.ListN.{length, take}
+use borrow.Author.Tests.{eqb-true, eqb-false, le-ltb}
 use Rattle.definitions.specs.declared.Answer.{Answer}
+use Rattle.definitions.specs.declared.Answer.the-variants.{Refused}
 use Rattle.definitions.specs.State.{Core}
-use Rattle.definitions.specs.History.{History, start, _then_, end, calls, scheduler}
-use Rattle.definitions.specs.Sameness.{after, answerAt, kept, log, SameDealings, LooksSame, Sameness}
+use Rattle.definitions.specs.History.{History, start, _then_, Place, end, before, calls, Dealing, Trace, Holdings, scheduler, after, answerAt, dealingAt, traceOf}
+use Rattle.definitions.specs.Sameness.{kept, log, answersOf, SameDealings, LooksSame, Sameness}
 use Rattle.definitions.proofs.Sameness.Theorem.{sameness}
 use Rattle.grammar.specs.declared.Line.{Line}
 use Rattle.grammar.specs.declared.Line.the-variants.{Form, Refused as Unread}
-use Rattle.grammar.specs.Bytes.{lineFeed, textLimit}
+use Rattle.grammar.specs.Bytes.{lineFeed, Unbroken, textLimit}
 use Rattle.grammar.specs.Grammar.{parsed}
 use Rattle.grammar.specs.Printout.{printed, answered, printedFrom, printout}
-use Rattle.grammar.specs.Sheet.{printedAt, heard, printedLine, told, sheetFrom, LinesPrinted, SameLines, SamenessOnPaper}
+use Rattle.grammar.specs.Lines.{lines, held, heard, toldFrom, told, printedLine, printedLines, LinesPrinted}
+use Rattle.grammar.specs.Sheet.{Sheet, sheet, noted, notedFrom, printedOf, SameLines, PrintsSame, SamenessOnPaper}
+use Rattle.grammar.proofs.Splits.{OneLine, closed-line, open-line, held-closed, held-open, printed-line}
 
--- ---- the printout is the lines that the history's calls print
+-- ---- the printout falls into the lines that the history's calls print
 
 line-printed : (h : History) (l : Line) → printed (answered (after scheduler h) l .answer) ≡ printedLine h l
-unfolding answered printedLine printedAt answerAt
+unfolding answered printedLine answerAt
 line-printed h (Form call) = refl
 line-printed h (Unread n) = refl
 
@@ -32,68 +36,188 @@ unfolding answered heard after
 line-heard h (Form call) = refl
 line-heard h (Unread n) = refl
 
-sheet-printed : (h : History) (line text : List ℕ) → printedFrom (after scheduler h) line text ≡ sheetFrom h line text
-unfolding printedFrom sheetFrom
-sheet-printed h [] [] = refl
-sheet-printed h (b ∷ line) [] = refl
-sheet-printed h line (b ∷ text) =
-    elim (eqb b lineFeed)
-    as (λ (x : Bool).
-    _≡_ {A = List ℕ}
-    (elim x [
-      | true ↦ printed (answered (after scheduler h) (parsed line) .answer)
-          ++ printedFrom (answered (after scheduler h) (parsed line) .core) [] text
-      | false ↦ printedFrom (after scheduler h) (line ++ (b ∷ [])) text
-    ])
-    (elim x [
-      | true ↦ printedLine h (parsed line) ++ sheetFrom (heard h (parsed line)) [] text
-      | false ↦ sheetFrom h (line ++ (b ∷ [])) text
-    ])) [
-      | true ↦ ap (λ (l : List ℕ). l ++ printedFrom (answered (after scheduler h) (parsed line) .core) [] text) (line-printed h (parsed line))
-          ∙ ap (λ (l : List ℕ). printedLine h (parsed line) ++ l)
-          (ap (λ (core : Core). printedFrom core [] text) (line-heard h (parsed line)) ∙ sheet-printed (heard h (parsed line)) [] text)
-      | false ↦ sheet-printed h (line ++ (b ∷ [])) text
-    ]
+unbroken-append : (line : List ℕ) (b : ℕ) → Unbroken line → b ≢ lineFeed → Unbroken (line ++ (b ∷ []))
+unbroken-append [] b whole other = (other, tt)
+unbroken-append (x ∷ line) b whole other = (whole .0, unbroken-append line b (whole .1) other)
+
+-- what lines print, one after the other
+first-printed : (h : History) (line : List ℕ) (rest : List (List ℕ)) (l : Line) → held line ≡ l
+    → flatten (printedLines h (line ∷ rest)) ≡ printedLine h l ++ flatten (printedLines (heard h l) rest)
+unfolding flatten printedLines
+first-printed h line rest l e = rw e
+
+-- at a line feed, and behind the last one
+closed-printed : (h : History) (line text : List ℕ) → Unbroken line
+    → flatten (printedLines h (lines (line ++ lineFeed ∷ text)))
+    ≡ printedLine h (parsed line) ++ flatten (printedLines (heard h (parsed line)) (lines text))
+closed-printed h line text whole =
+    ap (λ (ls : List (List ℕ)). flatten (printedLines h ls))
+    (ap lines (sym (append-assoc line (lineFeed ∷ []) text)) ∙ closed-line line whole text)
+    ∙ first-printed h (line ++ lineFeed ∷ []) (lines text) (parsed line) (held-closed line whole)
+
+open-printed : (h : History) (b : ℕ) (line : List ℕ) → Unbroken (b ∷ line)
+    → flatten (printedLines h (lines (b ∷ line))) ≡ printed (Refused 16)
+unfolding flatten printedLines heard printedLine
+open-printed h b line whole =
+    ap (λ (ls : List (List ℕ)). flatten (printedLines h ls)) (open-line b line whole)
+    ∙ first-printed h (b ∷ line) [] (Unread 16) (held-open (b ∷ line) whole)
+    ∙ append-nil (printed (Refused 16))
+
+-- what is left of a text, with the bytes of the line so far
+sheet-printed : (h : History) (line text : List ℕ) → Unbroken line
+    → printedFrom (after scheduler h) line text ≡ flatten (printedLines h (lines (line ++ text)))
+unfolding printedFrom
+sheet-printed h [] [] whole = unfold flatten printedLines lines in refl
+sheet-printed h (b ∷ line) [] whole =
+    sym (ap (λ (t : List ℕ). flatten (printedLines h (lines t))) (append-nil (b ∷ line)) ∙ open-printed h b line whole)
+sheet-printed h line (b ∷ text) whole = go (eqb b lineFeed) refl
+    (λ l. sheet-printed (heard h l) [] text tt)
+    (λ other. sheet-printed h (line ++ (b ∷ [])) text (unbroken-append line b whole other))
+  where
+    go : (t : Bool) → eqb b lineFeed ≡ t
+        → ((l : Line) → printedFrom (after scheduler (heard h l)) [] text ≡ flatten (printedLines (heard h l) (lines text)))
+        → (b ≢ lineFeed → printedFrom (after scheduler h) (line ++ (b ∷ [])) text ≡ flatten (printedLines h (lines ((line ++ (b ∷ [])) ++ text))))
+        → elim t [
+          | true ↦ printed (answered (after scheduler h) (parsed line) .answer) ++ printedFrom (answered (after scheduler h) (parsed line) .core) [] text
+          | false ↦ printedFrom (after scheduler h) (line ++ (b ∷ [])) text
+        ]
+        ≡ flatten (printedLines h (lines (line ++ b ∷ text)))
+    go true e later joins =
+        ap (λ (l : List ℕ). l ++ printedFrom (answered (after scheduler h) (parsed line) .core) [] text) (line-printed h (parsed line))
+        ∙ ap (λ (l : List ℕ). printedLine h (parsed line) ++ l)
+        (ap (λ (core : Core). printedFrom core [] text) (line-heard h (parsed line)) ∙ later (parsed line))
+        ∙ sym (closed-printed h line text whole)
+        ∙ ap (λ (x : ℕ). flatten (printedLines h (lines (line ++ x ∷ text)))) (sym (eqb-true b lineFeed e))
+    go false e later joins =
+        joins (eqb-false b lineFeed e) ∙ ap (λ (t : List ℕ). flatten (printedLines h (lines t))) (append-assoc line (b ∷ []) text)
+
+-- every printed line is one line, so the lines of the whole are they
+printed-one : (h : History) (l : Line) → OneLine (printedLine h l)
+unfolding printedLine
+printed-one h (Form call) = printed-line (answerAt scheduler h call)
+printed-one h (Unread n) = printed-line (Refused n)
+
+lines-again : (h : History) (ls : List (List ℕ)) → lines (flatten (printedLines h ls)) ≡ printedLines h ls
+unfolding flatten printedLines lines
+lines-again h [] = refl
+lines-again h (l ∷ ls) =
+    printed-one h (held l) (flatten (printedLines (heard h (held l)) ls))
+    ∙ ap (λ (rest : List (List ℕ)). printedLine h (held l) ∷ rest) (lines-again (heard h (held l)) ls)
 
 pub lines-printed : LinesPrinted
 unfolding LinesPrinted after printout
-lines-printed text short = rw (printout, le-ltb textLimit (length text) short) (sheet-printed start [] text)
+lines-printed text short =
+    ap lines (rw (printout, le-ltb textLimit (length text) short) (sheet-printed start [] text tt)) ∙ lines-again start (lines text)
+
+-- ---- what is noted of a sheet is a log, from the first to the last
+
+noted-if : {A : Type 0} (b : Bool) (x : A) (l : List A) → reverseAux (cond b (x ∷ []) []) l ≡ cond b (x ∷ l) l
+noted-if true x l = refl
+noted-if false x l = refl
+
+-- the rows of lines that were told behind a history
+rowsOf : History → List (List ℕ) → Sheet
+rowsOf h ls = zip ls (printedLines h ls)
+
+inPrint : (ℕ × Answer) → ℕ × List ℕ
+inPrint entry = (entry .0, printed (entry .1))
+
+module _ (chosen : ℕ) (which : Trace → Dealing → Bool) where
+  -- what some dealings of a history printed
+  printedLog : History → List (ℕ × List ℕ)
+  printedLog h = log chosen which (λ d. printed (d .answer)) (traceOf scheduler h)
+
+  line-noted : (h : History) (l : Line) → reverseAux (noted chosen which h l (printedLine h l)) (printedLog h) ≡ printedLog (heard h l)
+  unfolding noted printedLine heard printedLog log traceOf dealingAt
+  line-noted h (Form call) =
+      noted-if (which (traceOf scheduler h) (dealingAt scheduler h call))
+      (calls (kept chosen (traceOf scheduler h)), printed (answerAt scheduler h call)) (printedLog h)
+  line-noted h (Unread n) = refl
+
+  rows-noted : (h : History) (m : ℕ) (ls : List (List ℕ))
+      → reverseAux (notedFrom chosen which h (take m (rowsOf h ls))) (printedLog h) ≡ printedLog (toldFrom h (take m ls))
+  unfolding rowsOf zip zipWith printedLines notedFrom toldFrom
+  rows-noted h zero ls = refl
+  rows-noted h (suc m) [] = refl
+  rows-noted h (suc m) (l ∷ ls) =
+      reverseAux-append (noted chosen which h (held l) (printedLine h (held l)))
+      (notedFrom chosen which (heard h (held l)) (take m (rowsOf (heard h (held l)) ls))) (printedLog h)
+      ∙ ap (reverseAux (notedFrom chosen which (heard h (held l)) (take m (rowsOf (heard h (held l)) ls)))) (line-noted h (held l))
+      ∙ rows-noted (heard h (held l)) m ls
+
+  log-printed : (h : History) → printedLog h ≡ map inPrint (answersOf chosen which (traceOf scheduler h))
+  unfolding printedLog log traceOf inPrint
+  log-printed start = refl
+  log-printed (h then c) = go (which (traceOf scheduler h) (dealingAt scheduler h c)) (log-printed h)
+    where
+      entry : ℕ × Answer
+      entry = (calls (kept chosen (traceOf scheduler h)), dealingAt scheduler h c .answer)
+
+      answers : List (ℕ × Answer)
+      answers = answersOf chosen which (traceOf scheduler h)
+
+      go : (b : Bool) → printedLog h ≡ map inPrint answers → cond b (inPrint entry ∷ printedLog h) (printedLog h) ≡ map inPrint (cond b (entry ∷ answers) answers)
+      go true e = ap (λ (l : List (ℕ × List ℕ)). inPrint entry ∷ l) e
+      go false e = e
+
+  -- of a text beside its printout
+  sheet-noted : (text : List ℕ) → length text ≤ textLimit → (m : ℕ)
+      → reverse (printedOf chosen which (take m (sheet text (printout text))))
+      ≡ map inPrint (answersOf chosen which (traceOf scheduler (told (take m (lines text)))))
+  unfolding LinesPrinted
+  sheet-noted text short m =
+      ap (λ (paper : List (List ℕ)). reverse (printedOf chosen which (take m (zip (lines text) paper)))) (lines-printed text short)
+      ∙ unfold rowsOf printedLog log traceOf in rows-noted start m (lines text)
+      ∙ log-printed (told (take m (lines text)))
 
 -- ---- demand 3
 
-same-printed : (chosen : ℕ) (which : History → Call → Bool) (h k : History)
-    → log scheduler chosen which (answerAt scheduler) h ≡ log scheduler chosen which (answerAt scheduler) k
-    → log scheduler chosen which printedAt h ≡ log scheduler chosen which printedAt k
-unfolding log printedAt
-same-printed chosen which h k e = lines h ∙ ap (map noted) e ∙ sym (lines k)
-  where
-    noted : (ℕ × Answer) → ℕ × List ℕ
-    noted entry = (entry .0, printed (entry .1))
+-- what some lines tell is behind a place of what more lines tell
+place-through : {h k l : History} → Place h k → Place k l → Place h l
+place-through p end = p
+place-through p (before q) = before (place-through p q)
 
-    lines : (p : History) → log scheduler chosen which printedAt p ≡ map noted (log scheduler chosen which (answerAt scheduler) p)
-    lines start = refl
-    lines (p then c) =
-        elim (which p c)
-        as (λ (x : Bool).
-        cond x ((calls (kept scheduler chosen p), printedAt p c) ∷ log scheduler chosen which printedAt p) (log scheduler chosen which printedAt p)
-        ≡ map noted
-        (cond x ((calls (kept scheduler chosen p), answerAt scheduler p c) ∷ log scheduler chosen which (answerAt scheduler) p)
-        (log scheduler chosen which (answerAt scheduler) p))) [
-          | true ↦ ap (λ (l : List (ℕ × List ℕ)). (calls (kept scheduler chosen p), printedAt p c) ∷ l) (lines p)
-          | false ↦ lines p
-        ]
+heard-place : (h : History) (l : Line) → Place h (heard h l)
+unfolding heard
+heard-place h (Form call) = before end
+heard-place h (Unread n) = end
 
-same-lines : (chosen id : ℕ) (when : History → Bool) (h k : History) → SameDealings scheduler chosen id when h k → SameLines chosen id when h k
-same-lines chosen id when h k same = record {
-  calls = same-printed chosen _ h k (same .answers);
-  slots = same-printed chosen _ h k (same .departures);
-}
+told-place : (h : History) (m : ℕ) (ls : List (List ℕ)) → Place (toldFrom h (take m ls)) (toldFrom h ls)
+unfolding toldFrom
+told-place h zero [] = end
+told-place h zero (l ∷ ls) = place-through (heard-place h (held l)) (told-place (heard h (held l)) zero ls)
+told-place h (suc m) [] = end
+told-place h (suc m) (l ∷ ls) = told-place (heard h (held l)) m ls
+
+module _ (chosen : ℕ) (a b : List ℕ) (shortA : length a ≤ textLimit) (shortB : length b ≤ textLimit) (m n : ℕ) where
+  abbrev traceA : Trace
+  traceA = traceOf scheduler (told (take m (lines a)))
+
+  abbrev traceB : Trace
+  traceB = traceOf scheduler (told (take n (lines b)))
+
+  same-printed : (which : Trace → Dealing → Bool) → answersOf chosen which traceA ≡ answersOf chosen which traceB
+      → printedOf chosen which (take m (sheet a (printout a))) ≡ printedOf chosen which (take n (sheet b (printout b)))
+  same-printed which e =
+      sym (reverse-reverse (printedOf chosen which (take m (sheet a (printout a)))))
+      ∙ ap reverse (sheet-noted chosen which a shortA m ∙ ap (map inPrint) e ∙ sym (sheet-noted chosen which b shortB n))
+      ∙ reverse-reverse (printedOf chosen which (take n (sheet b (printout b))))
+
+  same-lines : (id : ℕ) (when : Trace → Bool) → SameDealings chosen id when traceA traceB
+      → SameLines chosen id when (take m (sheet a (printout a))) (take n (sheet b (printout b)))
+  same-lines id when same = record { ownCalls = same-printed _ (same .answers); slots = same-printed _ (same .departures) }
+
+  prints-same : {x y : Holdings} → LooksSame chosen traceA x traceB y
+      → PrintsSame chosen (take m (sheet a (printout a))) (take n (sheet b (printout b)))
+  prints-same same = record {
+    settings = same-printed _ (same .settings);
+    chosenLines = same-lines chosen _ (same .chosenDealings);
+    indifferentLines = λ id. same-lines id _ (same .indifferentDealings id);
+  }
 
 pub sameness-on-paper : SamenessOnPaper
 unfolding SamenessOnPaper Sameness
-sameness-on-paper chosen a b e =
-    let same : LooksSame scheduler chosen (told a) (told b) = sameness chosen (told a) (told b) e (told a) (told b) end end (ap calls e) in record {
-      settings = same-printed chosen _ (told a) (told b) (same .settings);
-      chosenLines = same-lines chosen chosen _ (told a) (told b) (same .chosenDealings);
-      indifferentLines = λ id. same-lines chosen id _ (told a) (told b) (same .indifferentDealings id);
-    }
+sameness-on-paper chosen a b shortA shortB e m n counts =
+    prints-same chosen a b (omega arith) (omega arith) m n
+    (sameness chosen (told (lines a)) (told (lines b)) e (told (take m (lines a))) (told (take n (lines b))) (told-place start m (lines a))
+    (told-place start n (lines b)) counts)

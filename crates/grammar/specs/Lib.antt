@@ -3,5 +3,8 @@ pub mod Bytes
 pub mod Numerals
 pub mod Templates
 pub mod Grammar
+pub mod RoundTrip
 pub mod Printout
+pub mod Lines
 pub mod Sheet
+pub mod Examples

@@ -1,70 +1,65 @@
--- Demand 3 on paper (paper 01, "Two histories"): a text tells a history, one call for each line that holds a form, and its
--- printout has one printed line for each. Two texts whose kept lines are equal print the same for the chosen client and for
--- every indifferent one: the lines of their calls, and of the slots that bear their ids.
+-- Demand 3 on paper (paper 01, "Two histories"): a text and its printout side by side, line by line. What is compared is bytes of two
+-- printouts. Whom a private neighbour's slot picked, and what clients hold, only `Sameness` compares: its line tells more than the
+-- pick, and the rest is not printed.
 use Prim.Native.Nat.{ℕ, _≤_}
 use mathlib.Core.Path.{_≡_}
-use mathlib.Core.Bool.{Bool, true, false, _&&_}
-use mathlib.Core.List.{List, [], _∷_, _++_}
-use lib.Dec.{eqb}
-use lib.ListN.{length}
-use Rattle.definitions.specs.declared.Call.{Call}
-use Rattle.definitions.specs.declared.Answer.the-variants.{Refused}
-use Rattle.definitions.specs.History.{History, start, _then_, scheduler}
-use Rattle.definitions.specs.Sameness.{answerAt, indifferentAt, kept, log, departure, isSetting, names}
+use mathlib.Core.Bool.{Bool, true, cond, _&&_}
+use mathlib.Core.List.{List, [], _∷_, _++_, zip}
+use lib.ListN.{length, take}
+use Rattle.definitions.specs.History.{History, start, calls, Dealing, Trace, scheduler, dealingAt, traceOf}
+use Rattle.definitions.specs.Sameness.{isSetting, names, indifferentAt, kept, departure}
 use Rattle.grammar.specs.declared.Line.{Line}
 use Rattle.grammar.specs.declared.Line.the-variants.{Form, Refused as Unread}
-use Rattle.grammar.specs.Bytes.{lineFeed, textLimit}
-use Rattle.grammar.specs.Grammar.{parsed}
-use Rattle.grammar.specs.Printout.{printed, printout}
+use Rattle.grammar.specs.Bytes.{textLimit}
+use Rattle.grammar.specs.Printout.{printout}
+use Rattle.grammar.specs.Lines.{lines, held, heard, told}
 
--- the line that a call prints at a place
-unfoldable pub printedAt : History → Call → List ℕ
-printedAt h c = printed (answerAt scheduler h c)
+-- the lines of a text, each with the printed line beside it
+abbrev pub Sheet : Type 0
+Sheet = List (List ℕ × List ℕ)
 
--- the history behind a line, and the line that it prints
-unfoldable pub heard : History → Line → History
-heard h (Form call) = h then call
-heard h (Unread n) = h
+abbrev pub sheet : List ℕ → List ℕ → Sheet
+sheet text paper = zip (lines text) (lines paper)
 
-unfoldable pub printedLine : History → Line → List ℕ
-printedLine h (Form call) = printedAt h call
-printedLine h (Unread n) = printed (Refused n)
+module _ (chosen : ℕ) where
+  -- the calls that are kept of some lines
+  abbrev pub keptOf : List (List ℕ) → History
+  keptOf text = kept chosen (traceOf scheduler (told text))
 
--- the history that is told by what is left of a text, with the bytes of the line so far
-unfoldable pub toldFrom : History → List ℕ → List ℕ → History
-toldFrom h line [] = h
-toldFrom h line (b ∷ text) =
-    elim (eqb b lineFeed) [ true ↦ toldFrom (heard h (parsed line)) [] text | false ↦ toldFrom h (line ++ (b ∷ [])) text ]
+  module _ (which : Trace → Dealing → Bool) where
+    -- of a line that holds such a call, the printed line beside it, with the call's number among the kept calls
+    unfoldable pub noted : History → Line → List ℕ → List (ℕ × List ℕ)
+    noted h (Form call) paper =
+        cond (which (traceOf scheduler h) (dealingAt scheduler h call)) ((calls (kept chosen (traceOf scheduler h)), paper) ∷ []) []
+    noted h (Unread n) paper = []
 
-abbrev pub told : List ℕ → History
-told text = toldFrom start [] text
+    unfoldable pub notedFrom : History → Sheet → List (ℕ × List ℕ)
+    notedFrom h [] = []
+    notedFrom h (row ∷ rows) = noted h (held (row .0)) (row .1) ++ notedFrom (heard h (held (row .0))) rows
 
--- the same walk, with the printed lines one after the other
-unfoldable pub sheetFrom : History → List ℕ → List ℕ → List ℕ
-sheetFrom h [] [] = []
-sheetFrom h (b ∷ line) [] = printed (Refused 16)
-sheetFrom h line (b ∷ text) =
-    elim (eqb b lineFeed) [
-      | true ↦ printedLine h (parsed line) ++ sheetFrom (heard h (parsed line)) [] text
-      | false ↦ sheetFrom h (line ++ (b ∷ [])) text
-    ]
+    -- the printed lines beside such calls, from the first to the last
+    abbrev pub printedOf : Sheet → List (ℕ × List ℕ)
+    printedOf rows = notedFrom start rows
 
--- a text that is not too long prints those lines
-unfoldable pub LinesPrinted : Type 0
-LinesPrinted = (text : List ℕ) → length text ≤ textLimit → printout text ≡ sheetFrom start [] text
+-- one client's printed lines, at those places where `when` holds: those of its own calls, its drops among them, and of its slots
+pub record SameLines (chosen id : ℕ) (when : Trace → Bool) (x y : Sheet) : Type 0 where
+  pub ownCalls : printedOf chosen (λ t d. when t && names id (d .call)) x ≡ printedOf chosen (λ t d. when t && names id (d .call)) y
+  pub slots : printedOf chosen (λ t d. when t && departure id d) x ≡ printedOf chosen (λ t d. when t && departure id d) y
 
--- one client's printed lines: those of its own calls, and of its slots; each with its number among the kept calls
-pub record SameLines (chosen id : ℕ) (when : History → Bool) (h k : History) : Type 0 where
-  pub calls : log scheduler chosen (λ p c. when p && names id c) printedAt h ≡ log scheduler chosen (λ p c. when p && names id c) printedAt k
-  pub slots : log scheduler chosen (λ p c. when p && departure scheduler id p c) printedAt h
-      ≡ log scheduler chosen (λ p c. when p && departure scheduler id p c) printedAt k
-
-pub record PrintsSame (chosen : ℕ) (h k : History) : Type 0 where
+pub record PrintsSame (chosen : ℕ) (x y : Sheet) : Type 0 where
   -- the lines of every open, join, change and leave
-  pub settings : log scheduler chosen (λ p c. isSetting c) printedAt h ≡ log scheduler chosen (λ p c. isSetting c) printedAt k
-  pub chosenLines : SameLines chosen chosen (λ p. true) h k
-  pub indifferentLines : (id : ℕ) → SameLines chosen id (indifferentAt scheduler id) h k
+  pub settings : printedOf chosen (λ t d. isSetting (d .call)) x ≡ printedOf chosen (λ t d. isSetting (d .call)) y
+  pub chosenLines : SameLines chosen chosen (λ t. true) x y
+  pub indifferentLines : (id : ℕ) → SameLines chosen id (indifferentAt id) x y
 
+-- Any chosen client, any two texts of at most 60,000 bytes whose kept calls are equal, and any place of either, behind m lines of
+-- the one and n of the other, at which both have as many kept calls behind them.
 unfoldable pub SamenessOnPaper : Type 0
 SamenessOnPaper =
-    (chosen : ℕ) (a b : List ℕ) → kept scheduler chosen (told a) ≡ kept scheduler chosen (told b) → PrintsSame chosen (told a) (told b)
+    (chosen : ℕ) (a b : List ℕ)
+    → length a ≤ textLimit
+    → length b ≤ textLimit
+    → keptOf chosen (lines a) ≡ keptOf chosen (lines b)
+    → (m n : ℕ)
+    → calls (keptOf chosen (take m (lines a))) ≡ calls (keptOf chosen (take n (lines b)))
+    → PrintsSame chosen (take m (sheet a (printout a))) (take n (sheet b (printout b)))

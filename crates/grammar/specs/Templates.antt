@@ -1,7 +1,7 @@
 -- "One blank between parts, none elsewhere" (paper 01, "Script and printout").
 -- Templates: a text in which each # stands for a number. One template says how a form is written and how it is read.
-use Prim.Native.Nat.{ℕ}
-use mathlib.Core.Bool.{true, false}
+use Prim.Native.Nat.{ℕ, suc}
+use mathlib.Core.Bool.{true, false, cond}
 use mathlib.Core.List.{List, [], _∷_, _++_}
 use mathlib.Core.Option.{Option, none, some}
 use lib.Dec.{eqb}
@@ -10,6 +10,11 @@ use Rattle.grammar.specs.Numerals.{leading, behind, isNumeral, valueFrom
 -- the byte #
 abbrev pub gap : ℕ
 gap = 35
+
+-- how many numbers a template takes
+unfoldable pub gaps : List ℕ → ℕ
+gaps [] = 0
+gaps (b ∷ bs) = cond (eqb b gap) (suc (gaps bs)) (gaps bs)
 
 -- a template with numbers in its gaps, one after the other
 unfoldable pub filled : List ℕ → List ℕ → List ℕ

@@ -1,0 +1,71 @@
+-- The examples, computed over the definitions; a text that is too long by induction over its empty lines. Assumes nothing.
+use Prim.Native.Nat.{ℕ, zero, suc, _<_}
+use mathlib.Core.Path.{_≡_, refl, ap}
+use mathlib.Core.List.{_++_, zip, zipWith}
+use native.Mathlib.Omega.{arith}
+use lib.ListN.{length, length-replicate, replicate}
+use borrow.Author.Tests.{lt-ltb}
+use Rattle.definitions.specs.History.{History, scheduler, after, answerAt, dealingAt, traceOf}
+use Rattle.definitions.specs.Sameness.{isTick, names, indifferentBy, indifferentAt, isStruck, kept, departure}
+use Rattle.definitions.proofs.Everything.{everything}
+use Rattle.grammar.specs.Bytes.{lineFeed, textLimit, numberLimit}
+use Rattle.grammar.specs.Numerals.{isDigit, leading, behind, isNumeral, valueFrom, digits, decimal}
+use Rattle.grammar.specs.Templates.{filled, matched}
+use Rattle.grammar.specs.Grammar.{rules, numbersFit, sized, parsedBy, parsed}
+use Rattle.grammar.specs.Printout.{printed, answered, printedFrom, printout}
+use Rattle.grammar.specs.Lines.{lines, heldFrom, heard, toldFrom, told}
+use Rattle.grammar.specs.Sheet.{noted, notedFrom}
+use Rattle.grammar.specs.Examples.{PaperPrintout, BadPrintout, silence, CallAndSilence, tooLong, LimitNeeded}
+
+unfoldable pub printing : Type 0
+unfolding everything textLimit numberLimit isDigit leading behind isNumeral valueFrom digits decimal filled matched rules numbersFit sized
+    parsedBy parsed printed answered printedFrom printout
+printing = Unit {0}
+
+-- and what reads a text beside its printout
+unfoldable pub comparing : Type 0
+unfolding printing after answerAt dealingAt traceOf isTick names indifferentBy indifferentAt isStruck kept departure lines heldFrom heard
+    toldFrom zip zipWith noted notedFrom
+comparing = Unit {0}
+
+pub paper-printout : PaperPrintout
+unfolding PaperPrintout printing
+paper-printout = refl
+
+pub bad-printout : BadPrintout
+unfolding BadPrintout printing
+bad-printout = refl
+
+pub call-and-silence : CallAndSilence
+unfolding comparing
+call-and-silence = record {
+  keptAlike = refl;
+  callPrinted = refl;
+  silencePrinted = refl;
+  chosenCalls = refl;
+  chosenSlots = refl;
+  indifferentCalls = refl;
+  indifferentSlots = refl;
+  neighbourInCall = refl;
+  neighbourInSilence = refl;
+}
+
+-- empty lines tell nothing
+feeds-told : (h : History) (n : ℕ) → toldFrom h (lines (replicate n lineFeed)) ≡ h
+unfolding lines toldFrom heldFrom heard parsed rules parsedBy matched
+feeds-told h zero = refl
+feeds-told h (suc n) = feeds-told h n
+
+silence-told : (n : ℕ) → told (lines (silence ++ replicate n lineFeed)) ≡ told (lines silence)
+unfolding comparing
+silence-told n = feeds-told (told (lines silence)) n
+
+longer : (n : ℕ) → n < length (silence ++ replicate n lineFeed)
+longer n = omega (arith, length-replicate n lineFeed)
+
+pub limit-needed : LimitNeeded
+unfolding printout printed filled decimal digits
+limit-needed = record {
+  keptAlike = ap (λ (h : History). kept 5 (traceOf scheduler h)) (silence-told textLimit);
+  tooLongPrinted = rw (printout, lt-ltb textLimit (length tooLong) (longer textLimit));
+}

@@ -1,0 +1,61 @@
+-- Examples beside the claims: the printout that paper 01 prints ("Script and printout"), one of bad lines, and two texts of which
+-- demand 3 on paper speaks, with what it compares there and what it does not.
+use Prim.Native.Nat.{ℕ}
+use mathlib.Core.Path.{_≡_}
+use mathlib.Core.Bool.{_&&_}
+use mathlib.Core.List.{List, [], _∷_, _++_}
+use lib.ListN.{replicate}
+use Rattle.definitions.specs.Sameness.{indifferentAt, names, departure}
+use Rattle.grammar.specs.Bytes.{bytes, lineFeed, textLimit}
+use Rattle.grammar.specs.Printout.{printout}
+use Rattle.grammar.specs.Lines.{lines}
+use Rattle.grammar.specs.Sheet.{sheet, keptOf, printedOf}
+
+unfoldable pub PaperPrintout : Type 0
+PaperPrintout =
+    printout
+    (bytes "(open 1024 0 1)\n(join 2 (private 300))\n(join 5 (private 100))\n(join 3 (indifferent 200 1))\n(load 2 1)\n(arrive 2 (packet 17 64))\n(arrive 3 (packet 90 1518))\n(arrive 3 (packet 91 64))\n(tick)\n(tick)\n(tick)\n(tick)\n(arrive 5 (packet 40 63))\n")
+    ≡ bytes "(ok)\n(ok)\n(ok)\n(ok)\n(ok)\n(ok)\n(ok)\n(refused 15)\n(slot (real 3 90 1518 0))\n(slot (idle 5))\n(slot (real 2 17 64 1454))\n(slot (dummy 2))\n(refused 13)\n"
+
+-- lines of every bad kind
+unfoldable pub BadPrintout : Type 0
+BadPrintout =
+    printout
+    (bytes "\n(tick )\n(tick)\n(open 01 0 1)\n(open 4294967296 0 1)\n(open 1024 0 0)\n(leave 4294967295)\n(open 99999999999999999999 0 01)\n(minute 3)\n(tick)")
+    ≡ bytes "(refused 16)\n(refused 16)\n(refused 19)\n(refused 16)\n(refused 17)\n(refused 3)\n(refused 19)\n(refused 16)\n(refused 16)\n(refused 16)\n"
+
+-- Client 2 is private, and has a call in the one text and none in the other.
+abbrev pub opening : List ℕ
+opening = bytes "(open 1024 0 1)\n(join 2 (private 300))\n(join 5 (private 100))\n(join 3 (indifferent 200 1))\n"
+
+abbrev pub slots : List ℕ
+slots = bytes "(arrive 3 (packet 90 1518))\n(tick)\n(tick)\n(tick)\n"
+
+abbrev pub call : List ℕ
+call = opening ++ bytes "(arrive 2 (packet 17 64))\n" ++ slots
+
+abbrev pub silence : List ℕ
+silence = opening ++ slots
+
+-- What is compared of them for client 5. The lines of client 2's slot differ, and are not compared.
+pub record CallAndSilence : Type 0 where
+  pub keptAlike : keptOf 5 (lines call) ≡ keptOf 5 (lines silence)
+  pub callPrinted : printout call
+      ≡ bytes "(ok)\n(ok)\n(ok)\n(ok)\n(ok)\n(ok)\n(slot (real 3 90 1518 0))\n(slot (idle 5))\n(slot (real 2 17 64 1454))\n"
+  pub silencePrinted : printout silence
+      ≡ bytes "(ok)\n(ok)\n(ok)\n(ok)\n(ok)\n(slot (real 3 90 1518 0))\n(slot (idle 5))\n(slot (idle 2))\n"
+  pub chosenCalls : printedOf 5 (λ t d. names 5 (d .call)) (sheet call (printout call)) ≡ (2, bytes "(ok)\n") ∷ []
+  pub chosenSlots : printedOf 5 (λ t d. departure 5 d) (sheet call (printout call)) ≡ (6, bytes "(slot (idle 5))\n") ∷ []
+  pub indifferentCalls : printedOf 5 (λ t d. indifferentAt 3 t && names 3 (d .call)) (sheet call (printout call)) ≡ (4, bytes "(ok)\n") ∷ []
+  pub indifferentSlots : printedOf 5 (λ t d. indifferentAt 3 t && departure 3 d) (sheet call (printout call))
+      ≡ (5, bytes "(slot (real 3 90 1518 0))\n") ∷ []
+  pub neighbourInCall : printedOf 5 (λ t d. departure 2 d) (sheet call (printout call)) ≡ (7, bytes "(slot (real 2 17 64 1454))\n") ∷ []
+  pub neighbourInSilence : printedOf 5 (λ t d. departure 2 d) (sheet silence (printout silence)) ≡ (7, bytes "(slot (idle 2))\n") ∷ []
+
+-- Why the texts have at most 60,000 bytes: a longer one may keep the same calls, and prints 18 alone.
+abbrev pub tooLong : List ℕ
+tooLong = silence ++ replicate textLimit lineFeed
+
+pub record LimitNeeded : Type 0 where
+  pub keptAlike : keptOf 5 (lines tooLong) ≡ keptOf 5 (lines silence)
+  pub tooLongPrinted : printout tooLong ≡ bytes "(refused 18)\n"
