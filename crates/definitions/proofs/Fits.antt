@@ -10,7 +10,6 @@ use Rattle.definitions.specs.declared.Packet.{Packet}
 use Rattle.definitions.specs.declared.Call.{Call}
 use Rattle.definitions.specs.declared.Call.the-variants.{Open, Join, Change, Leave, Load, Arrive, Tick}
 use Rattle.definitions.specs.Sizes.{numberLimit, handleLimit, firstCome}
-use Rattle.definitions.specs.Generator.{stepped}
 use Rattle.definitions.specs.Draw.{draw}
 use Rattle.definitions.specs.Client.{kindOf, sameKind, Client, nobody, joining, retuned, changed, loaded, queued, spent, refilled}
 use Rattle.definitions.specs.State.{State, Core, unopened, running, fresh, without}
@@ -19,25 +18,26 @@ use Rattle.definitions.specs.Calls.{onOpen, updated, onJoin, orderAfterC
 use Rattle.definitions.specs.Tick.{Rule, rule1, rule2, rule3, ruleOf, Turn, firstTurn, turnBy, turn, refillAll, slotted, onTick}
 use Rattle.definitions.specs.Core.{step}
 use Rattle.definitions.specs.History.{start, _then_, scheduler, after}
+use Rattle.definitions.specs.Evenness.{steppedBy}
 use Rattle.definitions.specs.Fits.{CallFits, HandlesFit, StateFits, CoreFits, Fits, FitsMet, FitsNeeded}
 use Rattle.definitions.proofs.Everything.{everything}
 use Rattle.definitions.proofs.Laws.Tests.{cond-both}
 use Rattle.definitions.proofs.Laws.Checked.{Passed, checked-cases}
 use Rattle.definitions.proofs.Laws.Clients.{put-cases, clientsAfter-cases}
 use Rattle.definitions.proofs.Generator.{Seeded, stepped-seeded}
-use Rattle.definitions.proofs.Sample.{steppedBy, sample-sampled}
+use Rattle.definitions.proofs.Sample.{sample-sampled}
 
 -- The generator: a draw steps it, up to nine times.
 
 steppedBy-seeded : (n v : ℕ) → Seeded v → Seeded (steppedBy n v)
 unfolding steppedBy
 steppedBy-seeded zero v seeded = seeded
-steppedBy-seeded (suc n) v seeded = steppedBy-seeded n (stepped v) (stepped-seeded v seeded)
+steppedBy-seeded (suc n) v seeded = stepped-seeded (steppedBy n v) (steppedBy-seeded n v seeded)
 
 draw-seeded : (generator : ℕ) (weight : ℕ → ℕ) → Seeded generator → Seeded (draw generator weight .sample .generator)
 unfolding draw
 draw-seeded generator weight seeded =
-    rw (sample-sampled _ generator .kept) (steppedBy-seeded _ (stepped generator) (stepped-seeded generator seeded))
+    rw (sample-sampled _ generator .generator-is) (steppedBy-seeded _ generator seeded)
 
 turnBy-seeded : (rule : Rule) (s : State) → Seeded (s .generator) → Seeded (turnBy rule s .generator)
 unfolding turnBy firstTurn
