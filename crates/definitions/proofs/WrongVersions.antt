@@ -16,7 +16,7 @@ use Rattle.definitions.specs.Cases.{arrival, arrivals}
 use Rattle.definitions.specs.History.{History, start, _then_, Scheduler, after, answerAt, scheduler}
 use Rattle.definitions.specs.Sameness.{isTick}
 use Rattle.definitions.specs.Altered.{withTick, slotBy, withArrive, roomLeft, tokenLeft, arriveIf}
-use Rattle.definitions.specs.WrongVersions.{Differs, unsent, alwaysDummy, idleOnce, laterIdle, twoRoomsLeft, fullEarly, moreThanToken, drainedEarly, lowestTurn, lowestId, forgotten, notKept, refusesAll, alwaysNone, AllDiffer}
+use Rattle.definitions.specs.WrongVersions.{Differs, unsent, alwaysDummy, idleOnceTicked, laterIdle, twoRoomsLeft, fullEarly, moreThanToken, drainedEarly, lowestTurn, lowestId, forgotten, notKept, refusesAll, alwaysNone, AllDiffer}
 use Rattle.definitions.proofs.Laws.Tests.{true-false}
 use Rattle.definitions.proofs.Everything.{everything}
 
@@ -53,7 +53,7 @@ alwaysDummy-differs =
 
 -- two packets of 2 wait, and the second tick idles
 laterIdle-differs : Differs laterIdle
-unfolding computed unsent idleOnce shownAt
+unfolding computed unsent idleOnceTicked shownAt
 laterIdle-differs =
     told-apart laterIdle (opening (Join 2 privateType 300 0 ∷ arrival 2 17 64 ∷ arrival 2 18 64 ∷ Tick ∷ [])) Tick 0 idle real refl refl
     (λ e. omega arith)

@@ -32,7 +32,7 @@ pub data Pick : Type 0 where
   byRule2 : ℕ → Pick
   byRule3 : Pick
 
--- a call that was made: what it got and, of a tick, whom its slot picked
+-- a call that was made, what it got, and whom a slot picks there: whose slot it was, if the call is a tick
 pub record Dealing : Type 0 where
   pub call : Call
   pub answer : Answer

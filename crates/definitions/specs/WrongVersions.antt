@@ -46,15 +46,15 @@ abbrev pub alwaysDummy : Scheduler
 alwaysDummy = schedulerBy (withTick (λ s. dummyBy (turn s .rule) s)) pickOf
 
 -- "the first tick by the rule and every later one idle": it remembers whether it has ticked
-unfoldable pub idleOnce : Core × Bool → Call → Result
-idleOnce inside c = cond (inside .1) (withTick (λ s. unsent s (Idle (turn s .id))) (inside .0) c) (step (inside .0) c)
+unfoldable pub idleOnceTicked : Core × Bool → Call → Result
+idleOnceTicked inside c = cond (inside .1) (withTick (λ s. unsent s (Idle (turn s .id))) (inside .0) c) (step (inside .0) c)
 
 abbrev pub laterIdle : Scheduler
 laterIdle = record {
   Inside = Core × Bool;
   unopenedCore = (unopened, false);
-  answer = λ inside c. idleOnce inside c .answer;
-  next = λ inside c. (idleOnce inside c .core, inside .1 || isTick c);
+  answer = λ inside c. idleOnceTicked inside c .answer;
+  next = λ inside c. (idleOnceTicked inside c .core, inside .1 || isTick c);
   pick = λ inside. pickOf (inside .0);
   holdings = λ inside. holdingsOf (inside .0);
 }

@@ -8,7 +8,8 @@ use borrow.Author.Tests.{lt-ltb}
 use Rattle.definitions.specs.History.{History, scheduler, after, answerAt, dealingAt, traceOf}
 use Rattle.definitions.specs.Sameness.{isTick, names, indifferentBy, indifferentAt, isStruck, kept, departure}
 use Rattle.definitions.proofs.Everything.{everything}
-use Rattle.grammar.specs.Bytes.{lineFeed, textLimit, numberLimit}
+use Rattle.definitions.specs.Sizes.{numberLimit}
+use Rattle.grammar.specs.Bytes.{lineFeed, textLimit}
 use Rattle.grammar.specs.Numerals.{isDigit, leading, behind, isNumeral, valueFrom, digits, decimal}
 use Rattle.grammar.specs.Templates.{filled, matched}
 use Rattle.grammar.specs.Grammar.{rules, numbersFit, sized, parsedBy, parsed}

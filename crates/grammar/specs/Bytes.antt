@@ -23,7 +23,3 @@ Unbroken (b ∷ bs) = (b ≢ lineFeed) × Unbroken bs
 -- "whole text over 60,000 bytes"
 unfoldable pub textLimit : ℕ
 textLimit = 60000
-
--- "a number above 4294967295"
-unfoldable pub numberLimit : ℕ
-numberLimit = 4294967295

@@ -9,10 +9,10 @@ use lib.Dec.{leb}
 use lib.ListN.{getD}
 use Rattle.definitions.specs.declared.Call.{Call}
 use Rattle.definitions.specs.declared.Call.the-variants.{Open, Join, Change, Leave, Load, Arrive, Tick}
-use Rattle.definitions.specs.Sizes.{indifferentType, privateType}
+use Rattle.definitions.specs.Sizes.{numberLimit, indifferentType, privateType}
 use Rattle.grammar.specs.declared.Line.{Line}
 use Rattle.grammar.specs.declared.Line.the-variants.{Form, Refused}
-use Rattle.grammar.specs.Bytes.{bytes, numberLimit}
+use Rattle.grammar.specs.Bytes.{bytes}
 use Rattle.grammar.specs.Templates.{matched}
 
 -- a form of the grammar: how it is written, and the call that its numbers make

@@ -12,7 +12,8 @@ use lib.ListN.{drop}
 use Rattle.definitions.specs.declared.Call.{Call}
 use Rattle.grammar.specs.declared.Line.{Line}
 use Rattle.grammar.specs.declared.Line.the-variants.{Form, Refused}
-use Rattle.grammar.specs.Bytes.{bytes, numberLimit}
+use Rattle.definitions.specs.Sizes.{numberLimit}
+use Rattle.grammar.specs.Bytes.{bytes}
 use Rattle.grammar.specs.Templates.{gap, matched}
 use Rattle.grammar.specs.Grammar.{Rule, nth, rule, numbersFit, sized, orElse, parsedBy}
 use Rattle.parser.specs.declared.Reading.{Reading}

@@ -11,7 +11,7 @@ use borrow.Author.Tests.{leb-true, leb-false, lt-leb, eq-eqb, ne-eqb}
 use lib.Dec.{leb, eqb}
 use lib.ListN.{length, drop, getD, drop-of-length-le}
 use lib.Seq.{drop-nil, drop-cons, drop-drop}
-use Rattle.grammar.specs.Bytes.{numberLimit}
+use Rattle.definitions.specs.Sizes.{numberLimit}
 use Rattle.grammar.specs.Templates.{gap, withNumber, matched}
 use Rattle.grammar.proofs.Matching.{gap-fits, gap-misfits, byte-fits, byte-misfits}
 use Rattle.parser.specs.declared.Numeral.{Numeral}

@@ -6,7 +6,7 @@ use mathlib.Core.List.{List}
 use native.Mathlib.Omega.{arith}
 use borrow.Author.Tests.{eq-eqb, ne-eqb, le-leb, lt-leb}
 use lib.ListN.{length, length-drop}
-use Rattle.grammar.specs.Bytes.{numberLimit}
+use Rattle.definitions.specs.Sizes.{numberLimit}
 use Rattle.grammar.specs.Numerals.{leading, behind, valueFrom}
 use Rattle.parser.specs.declared.Numeral.{Numeral}
 use Rattle.parser.specs.declared.Word.the-variants.{Number, Other}

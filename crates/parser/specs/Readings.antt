@@ -7,7 +7,7 @@ use lib.Dec.{eqb, leb}
 use Rattle.definitions.specs.declared.Call.{Call}
 use Rattle.grammar.specs.declared.Line.{Line}
 use Rattle.grammar.specs.declared.Line.the-variants.{Form, Refused}
-use Rattle.grammar.specs.Bytes.{numberLimit}
+use Rattle.definitions.specs.Sizes.{numberLimit}
 use Rattle.parser.specs.declared.Reading.{Reading}
 
 -- a line of another shape

@@ -5,7 +5,7 @@ use mathlib.Core.Bool.{cond, _&&_}
 use mathlib.Core.List.{List}
 use lib.Dec.{eqb, leb}
 use lib.ListN.{length}
-use Rattle.grammar.specs.Bytes.{numberLimit}
+use Rattle.definitions.specs.Sizes.{numberLimit}
 use Rattle.grammar.specs.Numerals.{leading, behind, isNumeral, valueFrom}
 use Rattle.parser.specs.declared.Word.{Word}
 use Rattle.parser.specs.declared.Word.the-variants.{Number, Other}

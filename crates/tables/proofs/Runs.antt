@@ -10,13 +10,17 @@ use Rattle.definitions.specs.State.{Core}
 use Rattle.definitions.specs.Core.{step}
 use Rattle.definitions.specs.History.{Place, end, before, calls, Trace, begin, _and_, Holdings, after, answerAt, dealingAt, traceOf, pickOf, holdingsOf, scheduler}
 use Rattle.definitions.specs.Sameness.{kept, LooksSame, Sameness}
+use Rattle.definitions.specs.Limits.{Limits}
+use Rattle.definitions.specs.Fits.{Fits}
 use Rattle.definitions.proofs.Sameness.Theorem.{sameness}
+use Rattle.definitions.proofs.Limits.{limits}
+use Rattle.definitions.proofs.Fits.{fits}
 use Rattle.tables.specs.declared.Control.{Control}
 use Rattle.tables.specs.declared.Answered.{Answered}
 use Rattle.tables.specs.Tables.{Tables}
 use Rattle.tables.specs.Meaning.{coreOf}
 use Rattle.tables.specs.Promise.{Meets}
-use Rattle.tables.specs.Run.{dealing, Reached, begun, called, Run, coreAfter, PlaceOf, CodeSameness, callsOf, CodeDefined, NeverWrong}
+use Rattle.tables.specs.Run.{dealing, Reached, begun, called, Run, coreAfter, PlaceOf, CodeSameness, callsOf, CodeDefined, CodeLimits, NeverWrong}
 use Rattle.tables.specs.Run as run
 
 -- the tables mean the core that the definitions reach
@@ -68,6 +72,13 @@ run-sameness chosen R Q e r q p w n =
   where
     keeps : (run : Run) → kept chosen (run .trace) ≡ kept chosen (traceOf scheduler (callsOf (run .trace)))
     keeps run = ap (kept chosen) (run-defined run .dealt)
+
+pub run-limits : CodeLimits
+unfolding CodeDefined Limits Fits
+run-limits = record {
+  limits = λ run. rw (run-defined run .core) (limits (callsOf (run .trace)));
+  fits = λ run all. rw (run-defined run .core) (fits (callsOf (run .trace)) all);
+}
 
 -- what the last call of a trace got; where nothing was called, anything
 lastAnswer : Trace → Answer

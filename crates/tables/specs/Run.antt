@@ -9,6 +9,8 @@ use Rattle.definitions.specs.declared.Call.{Call}
 use Rattle.definitions.specs.State.{Core, unopened}
 use Rattle.definitions.specs.History.{History, start, _then_, calls, Dealing, Trace, begin, _and_, Scheduler, after, answerAt, traceOf, pickOf, holdingsOf, scheduler}
 use Rattle.definitions.specs.Sameness.{kept, LooksSame}
+use Rattle.definitions.specs.Limits.{CoreLimits}
+use Rattle.definitions.specs.Fits.{HistoryFits, CoreFits}
 use Rattle.definitions.specs.WrongVersions.{Differs}
 use Rattle.tables.specs.declared.Control.{Control}
 use Rattle.tables.specs.declared.Answered.{Answered}
@@ -78,6 +80,11 @@ pub record Defined (run : Run) : Type 0 where
 
 unfoldable pub CodeDefined : Type 0
 CodeDefined = (run : Run) → Defined run
+
+-- So the limits hold of what the tables mean, and those of generator and handles where the calls' numbers have 32 bits.
+pub record CodeLimits : Type 0 where
+  pub limits : (run : Run) → CoreLimits (coreAfter run)
+  pub fits : (run : Run) → HistoryFits (callsOf (run .trace)) → CoreFits (coreAfter run)
 
 -- No run is one of the wrong versions: where a history shows that a scheduler differs, any run of that history and the call
 -- behind it got another answer than that scheduler gives.

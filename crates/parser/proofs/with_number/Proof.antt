@@ -2,7 +2,7 @@
 -- Assumes nothing.
 use borrow.Author.Needs.{needs}
 use borrow.Author.Tests.{le-leb, lt-leb, eq-eqb, ne-eqb}
-use Rattle.grammar.specs.Bytes.{numberLimit}
+use Rattle.definitions.specs.Sizes.{numberLimit}
 use Rattle.parser.specs.Readings.{placed, add}
 use Rattle.parser.proofs.with_number.Statement.{statement}
 use Rattle.parser.proofs.with_number.Tie as tie
