@@ -1,6 +1,7 @@
 #!/bin/bash
-# `slots` where its surroundings fail: it ends, prints only whole answers, and says on standard error what went wrong.
-#   tests/hard_use.sh SLOTS    in the root of the repository
+# `slots` where its surroundings fail: it ends, and says on standard error what went wrong, unless the system ends it by a signal. What it
+# printed is a beginning of the printout, or nothing; where the output takes a part of it and then no more, the last answer may be cut.
+#   tests/hard_use.sh SLOTS    in the root of the repository; needs rustc
 slots=$1 passed=0 failed=0
 script=examples/day.script printout=examples/day.printout
 folder=$(mktemp -d)
@@ -15,15 +16,31 @@ check() {
     fi
 }
 export slots script printout folder
+# shim: the program with the reads that READS says (tests/src/reads.rs)
+shim() { READS=$READS LD_PRELOAD=$folder/reads.so $slots; }
+export -f shim
+rustc -O --edition 2021 --crate-type cdylib tests/src/reads.rs -o "$folder/reads.so" || echo "no reads.so: what needs it will fail"
 
 check "a full disk is told on standard error" \
     '$slots <$script 2>$folder/err >/dev/full; grep -q "^slots: standard output: No space" $folder/err'
 check "a closed output is told on standard error" \
     '$slots <$script 2>$folder/err >&-; grep -q "^slots: standard output: Bad file" $folder/err'
+check "an output that fills up on the way has a beginning of the printout, and standard error says why" \
+    'yes "" | head -c 60000 >$folder/feeds; trap "" XFSZ; (ulimit -f 1; $slots <$folder/feeds 2>$folder/err >$folder/out)
+    $slots <$folder/feeds | head -c 1024 | cmp - $folder/out && grep -q "^slots: standard output: File too large" $folder/err'
 check "a missing input is told on standard error, and prints nothing" \
     '$slots <&- 2>$folder/err >$folder/out; [ ! -s $folder/out ] && grep -q "^slots: standard input: Bad file" $folder/err'
 check "a folder as input is told on standard error, and prints nothing" \
     '$slots <. 2>$folder/err >$folder/out; [ ! -s $folder/out ] && grep -q "^slots: standard input: Is a dir" $folder/err'
+check "a read that fails is told on standard error, and prints nothing, at the start or on the way" \
+    'for READS in E eeE; do
+        shim <$script 2>$folder/err >$folder/out; [ ! -s $folder/out ] && grep -q "^slots: standard input: Input/output" $folder/err || exit 1
+    done'
+check "a read that a signal interrupts is tried again" 'READS=IIeIe; shim <$script 2>&1 | cmp - $printout'
+check "a read that a signal interrupts without end is told on standard error, and prints nothing" \
+    'READS=eI; shim <$script 2>$folder/err >$folder/out; [ ! -s $folder/out ] && grep -q "^slots: standard input: Interrupted" $folder/err'
+check "what errno holds after reads that succeed stops nothing" \
+    'for READS in e i; do shim <$script 2>&1 | cmp - $printout || exit 1; done'
 check "an input that comes a byte at a time is printed as a whole one" \
     'while IFS= read -r -n 1 -d "" byte; do printf %s "$byte"; done <$script | $slots | cmp - $printout'
 check "an input that pauses in the middle of a line is waited for" \

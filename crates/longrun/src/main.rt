@@ -25,21 +25,24 @@ fn calls_in(blocks: u32) -> u64
     tables::wide(blocks) * (BLOCK as u64)
 }
 
-// Prints the line of the last of so many blocks. The seed stands here for the contract: what is printed is its check. A line whose
-// end cannot be written is told on standard error.
-fn tell(seed: u32, blocks: u32, check: u32)
+// Prints the line of the last of so many blocks, and gives whether it could be written whole; if not, that is told on standard error. The
+// seed stands here for the contract: what is printed is its check.
+fn tell(seed: u32, blocks: u32, check: u32) -> bool
     requires { ⌜ check ≡ after seed (blocks * block) .check ⌝ }
 {
-    io::write_all(STDOUT_FILENO, b"(calls ");
-    io::print_decimal(STDOUT_FILENO, calls_in(blocks));
-    io::write_all(STDOUT_FILENO, b" check ");
-    io::print_decimal(STDOUT_FILENO, tables::wide(check));
-    if !io::write_all(STDOUT_FILENO, b")\n") {
-        os::fail(b"longrun: standard output");
+    if io::write_all(STDOUT_FILENO, b"(calls ")
+        && io::print_decimal(STDOUT_FILENO, calls_in(blocks))
+        && io::write_all(STDOUT_FILENO, b" check ")
+        && io::print_decimal(STDOUT_FILENO, tables::wide(check))
+        && io::write_all(STDOUT_FILENO, b")\n")
+    {
+        return true;
     }
+    os::fail(b"longrun: standard output");
+    false
 }
 
-// So many blocks from a seed, with a line after each.
+// So many blocks from a seed, with a line after each. It ends at a line that could not be written.
 fn blocks(
     seed: u32,
     count: u32,
@@ -53,7 +56,9 @@ fn blocks(
     while done < count {
         at = runs::calls(at, clients, handles, lengths, links, BLOCK);
         done += 1;
-        tell(seed, done, at.check);
+        if !tell(seed, done, at.check) {
+            return;
+        }
     }
 }
 

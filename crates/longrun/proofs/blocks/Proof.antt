@@ -34,17 +34,20 @@ tell-requires c κs =
     let at = c .before .before .before .before .before .before in
     check-after (at .before .begin .ensures) (goes-as (omega arith) (goes-on (at .loop .inv .1) (c .calls .ensures)))
 
+returns : tie.Need-returns Inv-loop μ-loop
+returns c = search needs
+
 loop-less : tie.Need-loop-less Inv-loop μ-loop
 loop-less c = search needs
 
 loop-again : tie.Need-loop-again Inv-loop μ-loop
 loop-again c =
-    let made = c .before in
+    let made = c .before .before in
     let test = made .before .before .before .before .before in
     (omega (arith, test .loop-test .taken), goes-as (omega arith) (goes-on (test .before .loop .inv .1) (made .calls .ensures)))
 
-returns : tie.Need-returns Inv-loop μ-loop
-returns c = search needs
+returns-2 : tie.Need-returns-2 Inv-loop μ-loop
+returns-2 c = search needs
 
 pub blocks-spec : {M : Type 1} → statement M
 blocks-spec =
@@ -57,6 +60,7 @@ blocks-spec =
     calls-requires
     add-done
     tell-requires
+    returns
     loop-less
     loop-again
-    returns)
+    returns-2)

@@ -12,14 +12,17 @@ large-buffer-requires c κs = search needs
 out-room-requires : tie.Need-out-room-requires
 out-room-requires c κs = search needs
 
-slice-aggregate-read-full : tie.Need-slice-aggregate-read-full
-slice-aggregate-read-full c = search needs
+slice-aggregate-read-text : tie.Need-slice-aggregate-read-text
+slice-aggregate-read-text c = search needs
 
-read-full-requires : tie.Need-read-full-requires
-read-full-requires c κs = search needs
+read-text-requires : tie.Need-read-text-requires
+read-text-requires c κs = search needs
 
-errno-requires : tie.Need-errno-requires
-errno-requires c κs = search needs
+enum-known-got : tie.Need-enum-known-got
+enum-known-got c = search needs
+
+enum-told : tie.Need-enum-told
+enum-told c = search needs
 
 slice-aggregate-fail : tie.Need-slice-aggregate-fail
 slice-aggregate-fail c = search needs
@@ -31,10 +34,12 @@ returns : tie.Need-returns
 returns c = search needs
 
 array-share-prefix-text : tie.Need-array-share-prefix-text
-array-share-prefix-text c = search needs
+array-share-prefix-text c =
+    let got = c .before in omega (arith, rw (got .got .given .1) at (got .before .before .before .read-text .ensures))
 
 slice-aggregate-run : tie.Need-slice-aggregate-run
-slice-aggregate-run c = search needs
+slice-aggregate-run c =
+    let got = c .before .before in (rw (got .got .given .1) at (got .before .before .before .read-text .ensures)) .1
 
 slice-aggregate-run-2 : tie.Need-slice-aggregate-run-2
 slice-aggregate-run-2 c = search needs
@@ -70,9 +75,10 @@ main-spec =
     (tie.spec
     large-buffer-requires
     out-room-requires
-    slice-aggregate-read-full
-    read-full-requires
-    errno-requires
+    slice-aggregate-read-text
+    read-text-requires
+    enum-known-got
+    enum-told
     slice-aggregate-fail
     fail-requires
     returns
