@@ -78,7 +78,7 @@ tick-rule2-bears s r = rw (r, sent-bears) (eqb-refl (turnBy rule2 s .id))
 
 module _ (s : State) (id : ℕ) where
   -- after any tick, whoever was picked, the bucket of every id is that of before, refilled
-  tick-level : clientOf (onTick s .core) id .level ≡ refilled (s .clients id) .level
+  pub tick-level : clientOf (onTick s .core) id .level ≡ refilled (s .clients id) .level
   unfolding clientOf onTick slotted refillAll refilled spent
   tick-level = sent-keeps (λ (c : Client). refilled c .level) (λ c. refl) (turn s .rule) (turn s .id) (s .clients) id
 
