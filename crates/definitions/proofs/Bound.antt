@@ -24,7 +24,8 @@ use Rattle.definitions.specs.Sameness.{names, isSetting, isArrival, isTi
 use Rattle.definitions.specs.Bound.{oneIf, isOpen, resets, undisturbed, acceptances, ticks, Bound}
 use Rattle.definitions.proofs.Laws.Tests.{cond-both, T-and}
 use Rattle.definitions.proofs.Laws.Checked.{Passed, checked-cases}
-use Rattle.definitions.proofs.Laws.Clients.{put-other, put-cases, clientsAfter-cases}
+use Rattle.definitions.proofs.Laws.Clients.{put-other, put-cases, sent-keeps}
+use Rattle.definitions.proofs.Facts.{tick-level}
 
 -- a client d after a client c, of the same kind and rate, where something is taken of the level and something is given
 record Moved (taken given : ℕ) (c d : Client) : Type 0 where
@@ -38,10 +39,6 @@ unmoved c = record { kind = refl; rate = refl; level = omega arith }
 loaded-moved : (c : Client) (dummies : ℕ) → Moved 0 0 c (loaded c dummies)
 unfolding loaded
 loaded-moved c dummies = record { kind = refl; rate = refl; level = omega arith }
-
-spent-moved : (c : Client) → Moved 0 0 c (spent c)
-unfolding spent
-spent-moved c = record { kind = refl; rate = refl; level = omega arith }
 
 queued-moved : (c : Client) (p : Packet)
     → T (isIndifferent (c .kind))
@@ -61,15 +58,11 @@ queued-moved c p indifferently covered = record {
     go true t e = omega (arith, leb-true shares (c .level) e)
     go false t e = absurd t
 
-refilled-moved : (c d : Client) → Moved 0 0 c d → Moved 0 (c .rate) c (refilled d)
+-- a refill adds at most the rate
+refilled-within : (c : Client) → 0 + refilled c .level ≤ c .level + c .rate
 unfolding refilled
-refilled-moved c d m = record {
-  kind = m .kind;
-  rate = m .rate;
-  level = cond-both (λ (n : ℕ). 0 + n ≤ c .level + c .rate) (isIndifferent (d .kind))
-      (omega (arith, m .level, m .rate))
-      (omega (arith, m .level));
-}
+refilled-within c =
+    cond-both (λ (n : ℕ). 0 + n ≤ c .level + c .rate) (isIndifferent (c .kind)) (omega arith) (omega arith)
 
 module _ (s : State) (id : ℕ) where
   -- A call that passes its checks or keeps the core: the client moves as the accepted call moves it, or not at all.
@@ -128,14 +121,13 @@ module _ (s : State) (id : ℕ) where
       id
       indifferently
 
-  tick-moved : Moved 0 (s .clients id .rate) (s .clients id) (slotted s (turn s) .clients id)
-  unfolding slotted refillAll
-  tick-moved =
-      clientsAfter-cases (λ j d. Moved 0 (s .clients j .rate) (s .clients j) (refilled d))
-      (turn s .rule) (turn s .id) (s .clients)
-      (λ j. refilled-moved (s .clients j) (s .clients j) (unmoved (s .clients j)))
-      (refilled-moved (s .clients (turn s .id)) (spent (s .clients (turn s .id))) (spent-moved (s .clients (turn s .id))))
-      id
+  tick-moved : Moved 0 (s .clients id .rate) (s .clients id) (clientOf (onTick s .core) id)
+  unfolding clientOf onTick slotted refillAll refilled spent
+  tick-moved = record {
+    kind = sent-keeps (λ (c : Client). c .kind) (λ c. refl) (turn s .rule) (turn s .id) (s .clients) id;
+    rate = sent-keeps (λ (c : Client). c .rate) (λ c. refl) (turn s .rule) (turn s .id) (s .clients) id;
+    level = rw (tick-level s id) (refilled-within (s .clients id));
+  }
 
 -- whether a call, answered so, is an accepted arrival of the client
 abbrev taking : ℕ → Call → Result → Bool

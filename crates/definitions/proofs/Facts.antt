@@ -27,7 +27,7 @@ use Rattle.definitions.proofs.Laws.Rules.{sent-bears}
 use Rattle.definitions.proofs.Laws.Clients.{put-same, sent-keeps, sameKind-refl, sameKind-false}
 
 -- after any tick, whoever was picked, the bucket of every id is that of before, refilled
-tick-level : (s : State) (id : ℕ) → clientOf (onTick s .core) id .level ≡ refilled (s .clients id) .level
+pub tick-level : (s : State) (id : ℕ) → clientOf (onTick s .core) id .level ≡ refilled (s .clients id) .level
 unfolding clientOf onTick slotted refillAll refilled spent
 tick-level s id = sent-keeps (λ (c : Client). refilled c .level) (λ c. refl) (turn s .rule) (turn s .id) (s .clients) id
 
