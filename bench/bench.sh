@@ -1,21 +1,23 @@
 #!/bin/bash
 # Benchmarks the proved slot core (libbench.a) and the program slots against the plain ones, in time and instructions.
-#   bench.sh [--stub] [--lto] [--scripts] [FOLDER]
-# Run it in the repository's root. Everything is built into FOLDER (default: target/bench).
+#   bench.sh [--stub] [--calls] [--scripts] [FOLDER]
+# Run it in the repository's root. Everything is built into FOLDER (default: target/bench). Both cores are inlined into their sequences.
 #   --stub     links stub.c in place of libbench.a, to try the benchmark itself; no scripts
 #   --scripts  only the scripts
-#   --lto      lets gcc inline the plain core into its sequence (a stricter yardstick)
+#   --calls    leaves the plain core behind calls (a milder yardstick, since the proved one stays inlined)
+#   --lto      inlines the plain core, which is the default
 set -euo pipefail
 shopt -s inherit_errexit
 
 here=$(cd "$(dirname "$0")" && pwd)
-out=target/bench stub= lto= only_scripts=
+out=target/bench stub= lto=-flto only_scripts=
 for word in "$@"; do
     case $word in
     --stub) stub=1 ;;
+    --calls) lto= ;;
     --lto) lto=-flto ;;
     --scripts) only_scripts=1 ;;
-    -*) echo "usage: bench.sh [--stub] [--lto] [--scripts] [FOLDER]" >&2; exit 2 ;;
+    -*) echo "usage: bench.sh [--stub] [--calls | --lto] [--scripts] [FOLDER]" >&2; exit 2 ;;
     *) out=$word ;;
     esac
 done
@@ -45,7 +47,7 @@ find_proved() {
 # The plain core and its script program are held to the second program, on scripts (tests/README.md).
 check_plain() {
     local rust="rustc -O --edition 2021" second=$out/libsecond.rlib
-    gcc $flags "$here"/{plain_slots,plain}.c -o "$out/plain_slots"
+    gcc $flags $lto "$here"/{plain_slots,plain}.c -o "$out/plain_slots"
     $rust --crate-type lib --crate-name second second/src/lib.rs -o "$second"
     $rust --crate-type lib --crate-name tests tests/src/lib.rs --extern second="$second" -o "$out/libtests.rlib"
     $rust tests/src/compare.rs -L "$out" --extern second="$second" --extern tests="$out/libtests.rlib" -o "$out/compare"
@@ -57,6 +59,8 @@ build() {
     gcc $flags $lto -c "$here/sequence.c" -o "$out/sequence.o"
     gcc $flags -c "$here/harness.c" -o "$out/harness.o"
     gcc $flags $lto "$out"/{harness,sequence,plain}.o "${proved[@]}" -o "$out/harness"
+    [ -z "$lto" ] || ! nm "$out/harness" | grep -E ' plain_(open|join|change|leave|load|arrive|tick)' ||
+        { echo "bench.sh: gcc left the plain core behind calls" >&2; exit 1; }
 }
 
 # instructions WHICH INDEX ROUNDS: the instructions of one run, start of the program included
@@ -102,21 +106,46 @@ depth_of() {
         }' "$1"
 }
 
-# script NAME: 60,000 bytes, the last line cut off
+# script NAME: 60,000 bytes, the last line cut off; nothing for 'an empty script'
 script() {
-    case $1 in
-    calls) # 8 private and 8 indifferent clients; an arrival, a tick, and so on
-        awk 'BEGIN {
+    [ "$1" = "an empty script" ] || awk -v name="$1" '
+        function open_and_join(privates, rate,   i) { # ids from 0 on
             print "(open 1024 0 1)"
-            for (i = 0; i < 8; i++) print "(join " i " (private 64))\n(join " i + 8 " (indifferent 64 64))"
-            for (k = 1; k < 2000; k++)
-                print "(arrive " k * 7 % 16 " (packet " k * 1000003 % 4294967296 " " 64 + k * 37 % 1455 "))\n(tick)"
-        }' ;;
-    ticks) # one private client with dummies
-        echo "(open 1024 0 1)"; echo "(join 0 (private 1))"; echo "(load 0 255)"
-        awk 'BEGIN { for (k = 0; k < 9000; k++) print "(tick)" }' ;;
-    "line feeds") awk 'BEGIN { for (k = 0; k < 60000; k++) print "" }' ;;
-    esac | head -c 60000
+            for (i = 0; i < privates; i++) print "(join " i " (private " rate "))"
+        }
+        function arrival(id, k) { return "(arrive " id " (packet " k * 1000003 % 2147483647 " " 64 + k * 37 % 1455 "))" }
+        function mixed(k,   id) {
+            id = int(k / 7) % 64
+            if (k % 7 == 0) return "(join " id " (private 16))"
+            if (k % 7 == 1) return "(load " id " " k % 100 ")"
+            if (k % 7 == 2) return "(change " id " (indifferent 16 64))"
+            if (k % 7 == 3) return arrival(id, k)
+            if (k % 7 == 5) return "(leave " id ")"
+            return k % 70 == 6 ? "(open 1024 1 " k ")" : "(tick)"
+        }
+        function line(k) {
+            if (name == "calls") return k % 2 ? "(tick)" : arrival((k / 2 + 1) * 7 % 16, k / 2 + 1)
+            if (name ~ /^ticks/) return "(tick)"
+            if (name == "line feeds") return ""
+            if (name == "all seven calls") return mixed(k)
+            if (name == "joins") return "(join " k % 64 " (indifferent 16 64))"
+            if (name == "changes") return "(change " k % 64 " (private " 1 + k % 16 "))"
+            if (name == "loads") return "(load " k % 64 " 1)"
+            if (name ~ /arrivals/) return arrival(k % 64, k)
+            return "letters without a form" (name == "one line" ? " and without a line feed" : "")
+        }
+        BEGIN {
+            if (name == "calls") { # 8 private and 8 indifferent clients
+                open_and_join(0)
+                for (i = 0; i < 8; i++) print "(join " i " (private 64))\n(join " i + 8 " (indifferent 64 64))"
+            } else if (name == "ticks") { # one private client with dummies
+                open_and_join(1, 1)
+                print "(load 0 255)"
+            } else if (name ~ /^(changes|loads|arrivals|ticks of 64)/) open_and_join(64, 16)
+            else if (name !~ /^(line|one)/) open_and_join(0)
+            if (name == "one line") ORS = " "
+            for (k = 0; k < 60000; k++) print line(k)
+        }' | head -c 60000
 }
 
 # program_instructions PROGRAM SCRIPT TUNABLES: those of the whole process
@@ -131,7 +160,8 @@ scripts() {
     echo "| 60,000 bytes of | slots µs | plain µs | ratio | slots instructions | plain | ratio | memset by stores: slots | plain | ratio |"
     echo "|---|---:|---:|---:|---:|---:|---:|---:|---:|---:|"
     local name text=$temporary/script plain=$out/plain_slots by_stores=glibc.cpu.x86_rep_stosb_threshold=100000000
-    for name in calls ticks "line feeds"; do
+    for name in calls ticks "line feeds" "all seven calls" joins changes loads arrivals "refused arrivals" "ticks of 64 private clients" \
+        "ticks with nobody" "lines without a form" "one line" "an empty script"; do
         script "$name" >"$text" || true # head stops reading before the end
         target/bin/slots <"$text" >"$temporary/proved"
         "$plain" <"$text" >"$temporary/plain"

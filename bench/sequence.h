@@ -5,7 +5,8 @@
 
 #include <stdint.h>
 
-enum { MODE_SLOTS = 0, MODE_REFUSED = 1 };
+/* MODE_REFUSED is also the first id that nobody has; handed in as the mode, it is known to neither compiler. */
+enum { MODE_SLOTS = 0, MODE_REFUSED = 64 };
 enum { CALLS_OF_SLOTS = 2, CALLS_OF_REFUSED = 4 }; /* calls a round */
 
 uint64_t plain_run(uint32_t privates, uint32_t indifferents, uint32_t discipline, uint32_t depth,

@@ -6,7 +6,7 @@ use order::LINKS;
 use tables::CLIENTS;
 use tables::Control;
 use tables::STORE;
-ghost use Prim.Native.Nat.{_≤_};
+ghost use Prim.Native.Nat.{_≤_, _<_};
 ghost use Rattle.tables.specs.Tables.{tables};
 ghost use Rattle.tables.specs.Invariant.{Valid};
 
@@ -128,38 +128,48 @@ fn add(sum: u64, answer: Answer) -> u64 {
     std::num::wrapping_add_u64(sum, code(answer))
 }
 
-// Four calls that are refused.
+// The next of n ids, round and round: with a remainder in its place one compiler would divide and another count.
+fn next(id: u32, n: u32) -> u32
+    requires { ⌜ id < n ⌝ }
+    ensures { λ r. ⌜ r < n ⌝ }
+{
+    let after = id + 1;
+    if after < n { after } else { 0 }
+}
+
+fn packet(handle: u32, length: u32) -> Packet {
+    Packet { handle, length }
+}
+
+// Four calls that are refused if the first id that nobody has is 64. The compiler does not know that number, nor of any two calls that they
+// are for the same id, so that it cannot work out beforehand, or once for both, whether an id is too large.
 fn refused_round(
     control: Control,
     clients: &mut [u32; CLIENTS],
     handles: &mut [u32; STORE],
     lengths: &mut [u32; STORE],
     links: &mut [u32; LINKS],
-    n: u32,
+    id: u32,
+    other: u32,
+    beyond: u32,
     k: u32,
     sum: u64,
 ) -> Tally
-    requires { ⌜ Valid control (tables (now clients) (now handles) (now lengths) (now links)) × (1 ≤ n) ⌝ }
+    requires { ⌜ Valid control (tables (now clients) (now handles) (now lengths) (now links)) × (beyond ≤ 64) ⌝ }
     ensures { λ r. ⌜ Valid (r .control)
         (tables (now (clients .exit)) (now (handles .exit)) (now (lengths .exit)) (now (links .exit))) ⌝ }
 {
-    let none = 64 + k % 8;
-    let id = k % n;
-    let far = Packet {
-        handle: k,
-        length: 64,
-    };
-    let short = Packet {
-        handle: k,
-        length: 63,
-    };
+    let none = beyond + k % 8;
+    let nobody = beyond + k % 4;
+    let far = packet(k, 64);
+    let short = packet(k, 63);
     let a = traffic::arrive(control, clients, handles, lengths, links, none, far);
     let first = a.answer;
-    let b = traffic::load(a.control, clients, handles, lengths, links, none, k);
+    let b = traffic::load(a.control, clients, handles, lengths, links, nobody, k);
     let second = b.answer;
     let c = settings::join(b.control, clients, handles, lengths, links, id, 2, 1, 0);
     let third = c.answer;
-    let d = traffic::arrive(c.control, clients, handles, lengths, links, id, short);
+    let d = traffic::arrive(c.control, clients, handles, lengths, links, other, short);
     let fourth = d.answer;
     let last = d.control;
     Tally {
@@ -175,16 +185,32 @@ fn refused_rounds(
     lengths: &mut [u32; STORE],
     links: &mut [u32; LINKS],
     n: u32,
+    beyond: u32,
     rounds: u32,
 ) -> Tally
-    requires { ⌜ Valid control (tables (now clients) (now handles) (now lengths) (now links)) × (1 ≤ n) ⌝ }
+    requires { ⌜ Valid control (tables (now clients) (now handles) (now lengths) (now links)) × (1 ≤ n)
+        × (beyond ≤ 64) ⌝ }
     ensures { λ r. ⌜ Valid (r .control)
         (tables (now (clients .exit)) (now (handles .exit)) (now (lengths .exit)) (now (links .exit))) ⌝ }
 {
     let mut at = Tally { control, sum: 0 };
+    let mut id: u32 = 0;
     let mut k: u32 = 0;
     while k < rounds {
-        at = refused_round(at.control, clients, handles, lengths, links, n, k, at.sum);
+        let other = next(id, n);
+        at = refused_round(
+            at.control,
+            clients,
+            handles,
+            lengths,
+            links,
+            id,
+            other,
+            beyond,
+            k,
+            at.sum,
+        );
+        id = other;
         k += 1;
     }
     at
@@ -197,11 +223,11 @@ fn traffic_round(
     handles: &mut [u32; STORE],
     lengths: &mut [u32; STORE],
     links: &mut [u32; LINKS],
-    n: u32,
+    id: u32,
     k: u32,
     sum: u64,
 ) -> Tally
-    requires { ⌜ Valid control (tables (now clients) (now handles) (now lengths) (now links)) × (1 ≤ n) ⌝ }
+    requires { ⌜ Valid control (tables (now clients) (now handles) (now lengths) (now links)) ⌝ }
     ensures { λ r. ⌜ Valid (r .control)
         (tables (now (clients .exit)) (now (handles .exit)) (now (lengths .exit)) (now (links .exit))) ⌝ }
 {
@@ -209,7 +235,7 @@ fn traffic_round(
         handle: k,
         length: 64 + k % 1024,
     };
-    let a = traffic::arrive(control, clients, handles, lengths, links, k % n, packet);
+    let a = traffic::arrive(control, clients, handles, lengths, links, id, packet);
     let first = a.answer;
     let b = slot::tick(a.control, clients, handles, lengths, links);
     let second = b.answer;
@@ -234,15 +260,17 @@ fn traffic_rounds(
         (tables (now (clients .exit)) (now (handles .exit)) (now (lengths .exit)) (now (links .exit))) ⌝ }
 {
     let mut at = Tally { control, sum: 0 };
+    let mut id: u32 = 0;
     let mut k: u32 = 0;
     while k < rounds {
-        at = traffic_round(at.control, clients, handles, lengths, links, n, k, at.sum);
+        at = traffic_round(at.control, clients, handles, lengths, links, id, k, at.sum);
+        id = next(id, n);
         k += 1;
     }
     at
 }
 
-// A whole sequence on a fresh core: mode 0 is arrivals and ticks, any other only refused calls.
+// A whole sequence on a fresh core: mode 0 is arrivals and ticks, mode 64 only refused calls.
 #[no_mangle]
 pub extern "C" fn bench_run(
     privates: u32,
@@ -263,6 +291,9 @@ pub extern "C" fn bench_run(
         return 0;
     }
     if depth < 1 {
+        return 0;
+    }
+    if 64 < mode {
         return 0;
     }
     let mut clients = [0; CLIENTS];
@@ -317,6 +348,7 @@ pub extern "C" fn bench_run(
         &mut lengths,
         &mut links,
         n,
+        mode,
         rounds,
     ).sum
 }

@@ -19,6 +19,9 @@ returns-3 c = search needs
 returns-4 : tie.Need-returns-4
 returns-4 c = search needs
 
+returns-5 : tie.Need-returns-5
+returns-5 c = search needs
+
 unopened-requires : tie.Need-unopened-requires
 unopened-requires c κs = search needs
 
@@ -32,16 +35,22 @@ fill-queues-requires : tie.Need-fill-queues-requires
 fill-queues-requires c κs = search needs
 
 traffic-rounds-requires : tie.Need-traffic-rounds-requires
-traffic-rounds-requires c κs = (c .before .before .before .before .before .fill-queues .ensures, omega (arith, c .before .before .before .before .before .before .before .before .before .before .before .before .before .before .before .before .before .before .before .before .before .before .before .if3 .left))
-
-returns-5 : tie.Need-returns-5
-returns-5 c = search needs
-
-refused-rounds-requires : tie.Need-refused-rounds-requires
-refused-rounds-requires c κs = (c .before .before .before .before .before .fill-queues .ensures, omega (arith, c .before .before .before .before .before .before .before .before .before .before .before .before .before .before .before .before .before .before .before .before .before .before .before .if3 .left))
+traffic-rounds-requires c κs =
+    let filled = c .before .before .before .before .before in
+    let begun = filled .before .before .before .before .before .before .before .before .before .before .before .before .before .before .before .before .before in
+    (filled .fill-queues .ensures, omega (arith, begun .before .before .if3 .left))
 
 returns-6 : tie.Need-returns-6
 returns-6 c = search needs
+
+refused-rounds-requires : tie.Need-refused-rounds-requires
+refused-rounds-requires c κs =
+    let filled = c .before .before .before .before .before in
+    let begun = filled .before .before .before .before .before .before .before .before .before .before .before .before .before .before .before .before .before in
+    (filled .fill-queues .ensures, omega (arith, begun .before .before .if3 .left), omega (arith, begun .if5 .left))
+
+returns-7 : tie.Need-returns-7
+returns-7 c = search needs
 
 pub bench-run-spec : {M : Type 1} → statement M
 bench-run-spec =
@@ -52,11 +61,12 @@ bench-run-spec =
     add-n
     returns-3
     returns-4
+    returns-5
     unopened-requires
     open-requires
     join-all-requires
     fill-queues-requires
     traffic-rounds-requires
-    returns-5
+    returns-6
     refused-rounds-requires
-    returns-6)
+    returns-7)

@@ -1,20 +1,23 @@
 -- `bench::refused_rounds` meets its contract: the calls keep the core valid. Assumes nothing.
 use borrow.Author.Needs.{needs}
-use Prim.Native.Nat.{_-_, _≤_}
+use Prim.Native.Nat.{_-_, _≤_, _<_}
 use Rattle.tables.specs.Tables.{tables}
 use Rattle.tables.specs.Invariant.{Valid}
 use Rattle.bench.proofs.refused_rounds.Statement.{statement}
 use Rattle.bench.proofs.refused_rounds.Tie as tie
 
 abbrev Inv-loop : tie.InvT-loop
-Inv-loop clients₀ handles₀ lengths₀ links₀ n rounds at₀ k₀ clients handles lengths links at k =
-    Valid (at .control) (tables clients handles lengths links) × (k ≤ rounds)
+Inv-loop clients₀ handles₀ lengths₀ links₀ n beyond rounds at₀ id₀ k₀ clients handles lengths links at id k =
+    Valid (at .control) (tables clients handles lengths links) × (id < n) × (k ≤ rounds)
 
 abbrev μ-loop : tie.MeasureT-loop
-μ-loop clients₀ handles₀ lengths₀ links₀ n rounds at₀ k₀ clients handles lengths links at k = rounds - k
+μ-loop clients₀ handles₀ lengths₀ links₀ n beyond rounds at₀ id₀ k₀ clients handles lengths links at id k = rounds - k
 
 loop-holds : tie.Need-loop-holds Inv-loop μ-loop
 loop-holds c = search needs
+
+next-requires : tie.Need-next-requires Inv-loop μ-loop
+next-requires c κs = search needs
 
 refused-round-requires : tie.Need-refused-round-requires Inv-loop μ-loop
 refused-round-requires c κs = search needs
@@ -34,4 +37,4 @@ returns c = search needs
 pub refused-rounds-spec : {M : Type 1} → statement M
 refused-rounds-spec =
     tie.close
-    (tie.spec Inv-loop μ-loop loop-holds refused-round-requires add-k loop-less loop-again returns)
+    (tie.spec Inv-loop μ-loop loop-holds next-requires refused-round-requires add-k loop-less loop-again returns)

@@ -1,23 +1,26 @@
 -- `bench::traffic_rounds` meets its contract: the calls keep the core valid. Assumes nothing.
 use borrow.Author.Needs.{needs}
-use Prim.Native.Nat.{_-_, _≤_}
+use Prim.Native.Nat.{_-_, _≤_, _<_}
 use Rattle.tables.specs.Tables.{tables}
 use Rattle.tables.specs.Invariant.{Valid}
 use Rattle.bench.proofs.traffic_rounds.Statement.{statement}
 use Rattle.bench.proofs.traffic_rounds.Tie as tie
 
 abbrev Inv-loop : tie.InvT-loop
-Inv-loop clients₀ handles₀ lengths₀ links₀ n rounds at₀ k₀ clients handles lengths links at k =
-    Valid (at .control) (tables clients handles lengths links) × (k ≤ rounds)
+Inv-loop clients₀ handles₀ lengths₀ links₀ n rounds at₀ id₀ k₀ clients handles lengths links at id k =
+    Valid (at .control) (tables clients handles lengths links) × (id < n) × (k ≤ rounds)
 
 abbrev μ-loop : tie.MeasureT-loop
-μ-loop clients₀ handles₀ lengths₀ links₀ n rounds at₀ k₀ clients handles lengths links at k = rounds - k
+μ-loop clients₀ handles₀ lengths₀ links₀ n rounds at₀ id₀ k₀ clients handles lengths links at id k = rounds - k
 
 loop-holds : tie.Need-loop-holds Inv-loop μ-loop
 loop-holds c = search needs
 
 traffic-round-requires : tie.Need-traffic-round-requires Inv-loop μ-loop
 traffic-round-requires c κs = search needs
+
+next-requires : tie.Need-next-requires Inv-loop μ-loop
+next-requires c κs = search needs
 
 add-k : tie.Need-add-k Inv-loop μ-loop
 add-k c = search needs
@@ -34,4 +37,4 @@ returns c = search needs
 pub traffic-rounds-spec : {M : Type 1} → statement M
 traffic-rounds-spec =
     tie.close
-    (tie.spec Inv-loop μ-loop loop-holds traffic-round-requires add-k loop-less loop-again returns)
+    (tie.spec Inv-loop μ-loop loop-holds traffic-round-requires next-requires add-k loop-less loop-again returns)
