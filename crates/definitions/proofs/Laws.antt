@@ -1,4 +1,4 @@
--- Laws of the definitions, each stated once, which every proof above them cites.
+-- Laws of the definitions, each stated once, which the proofs above them cite.
 pub mod Tests
 pub mod Checked
 pub mod Clients

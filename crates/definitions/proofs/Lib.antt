@@ -1,6 +1,6 @@
 -- The proofs over the definitions. A reader of what is claimed needs none of them.
 
--- laws of the definitions, cited by all that follows
+-- laws of the definitions, cited by what follows
 pub mod Laws
 pub mod Generator
 pub mod Sample

@@ -1,5 +1,5 @@
 -- Each wrong version of specs/WrongVersions is shown by a short history, at whose end a call gets another answer. Both answers
--- are computed and told apart by the first number that they show. Assumes nothing.
+-- are computed, and told apart by a number that they show or by whether they accept. Assumes nothing.
 use Prim.Native.Nat.{ℕ}
 use native.Mathlib.Omega.{arith}
 use mathlib.Core.Path.{_≡_, refl, sym, ap, _∙_}

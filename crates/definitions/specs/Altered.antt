@@ -1,4 +1,4 @@
--- The calls as they are defined, but for one of them: what the leaks and the wrong versions of paper 01 are made of.
+-- The calls as they are defined, but for one of them: of these the leaks of paper 01 are made, and most of its wrong versions.
 use Prim.Native.Nat.{ℕ}
 use mathlib.Core.Bool.{Bool, cond, not, _||_}
 use mathlib.Core.List.{[], _∷_}

@@ -1,6 +1,6 @@
 -- Even odds (paper 02, S-1): "the plain remainder favours low targets by a hair"; the values that count favour none.
 -- Claimed for any sum: of the numbers that are not thrown away, as many give one target as give another. The ninth value, which
--- counts as it is, is outside the claim; no sum of rates comes to it (`AtMostTwoSteps`).
+-- counts as it is, is outside the claim; with a sum of rates and a first value of 32 bits no draw comes to it (`AtMostTwoSteps`).
 use Prim.Native.Nat.{ℕ, zero, suc, _+_, _/_, _%_, _^_, _≤_, _<_}
 use mathlib.Core.Path.{_≡_}
 use mathlib.Core.Bool.{cond}

@@ -1,6 +1,6 @@
 -- What is easy to get wrong about the core, one small fact each, under the words of the papers that it stands for.
 -- The facts on ticks, changes and checks are claimed of any state, reached or not; the two on turns of any state within the limits, and
--- so of every state that a history reaches (Limits). P4 and P7 to P10 (Cases) are instances of some.
+-- so of every state that a history reaches (Limits). Some have instances among P4 and P7 to P10 (Cases).
 use Prim.Native.Nat.{ℕ, _+_, _-_, _*_, _≤_, _<_, min}
 use mathlib.Core.Path.{_≡_}
 use mathlib.Core.Logic.{_≢_}
@@ -116,7 +116,7 @@ pub record CheckFacts : Type 0 where
       → within shortest longest (p .length) ≡ true
       → length (s .clients id .queue) ≡ places
       → onArrive s id p ≡ refused 14 (running s)
-  -- "a load of 0 is accepted", at a full pool too
+  -- "a load of 0 is accepted": at a full pool
   pub load-none : (s : State) (id : ℕ)
       → ltb id ids ≡ true
       → s .clients id .kind ≡ private

@@ -1,6 +1,6 @@
 -- Limits that rest on the width of a call's numbers (paper 01: "calls take unsigned 32-bit numbers"). The definitions take any
 -- number. `Fits` is claimed of every state that a history of such calls reaches. `FitsMet` shows such a history, and `FitsNeeded`
--- that a seed or a handle past its limit breaks the claim.
+-- that with a seed or a handle one past its limit the same history breaks the claim.
 use Prim.Native.Nat.{ℕ, suc, _≤_}
 use mathlib.Core.Path.{_≡_}
 use mathlib.Core.List.{List, [], _∷_}

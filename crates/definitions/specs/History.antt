@@ -49,7 +49,7 @@ pub record Holdings : Type 0 where
   pub pool : ℕ → ℕ
   pub level : ℕ → ℕ
 
--- What can be seen of a scheduler. The claims are about any scheduler; the one that the calls define is `scheduler`.
+-- What can be seen of a scheduler. Demand 3 is stated of any scheduler; the one that the calls define is `scheduler`.
 pub record Scheduler : Type 1 where
   pub Inside : Type 0
   pub unopenedCore : Inside

@@ -1,5 +1,6 @@
 -- What demand 3 rules out: the leaks among paper 01's "Faults a builder may like". Each is a scheduler that is the defined one but
--- for that fault. "Refilling only the client picked, or taking a token for a packet refused with 14" is wrong, and no leak.
+-- for that fault. The list's last line, "Refilling only the client picked, or taking a token for a packet refused with 14", goes by
+-- nothing that a private neighbour sends or loads, and is not among them.
 use Prim.Native.Nat.{ℕ, suc, _+_, _%_}
 use mathlib.Core.Bool.{Bool, true, false, cond, _&&_}
 use mathlib.Core.List.{List, [], _++_}
@@ -63,7 +64,7 @@ roomInStore s id = ltb (sumBelow ids (λ other. length (s .clients other .queue)
 abbrev pub oneStore : Scheduler
 oneStore = schedulerBy (withArrive (arriveIf roomInStore tokenLeft)) pickOf
 
--- "Keeping the queue over a change of type." An indifferent client's packets stand last in the order then.
+-- "Keeping the queue over a change of type." The packets of a client that becomes indifferent stand last in the order.
 unfoldable pub queueKept : Client → ℕ → ℕ → ℕ → Client
 queueKept c type rate burst = record {
   kind = kindOf type;

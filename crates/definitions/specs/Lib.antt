@@ -1,5 +1,5 @@
--- What the slot core means. The modules stand in the order in which a reader needs them; each opens with the words of
--- the papers that it stands for. No proof stands in this folder: ../proofs has them.
+-- What the slot core means. The modules stand in the order in which a reader needs them; each says what of the papers it
+-- stands for. No proof stands in this folder: ../proofs has them.
 
 -- the numbers that a later edition may change
 pub mod Sizes
@@ -16,7 +16,7 @@ pub mod Checks
 pub mod Calls
 pub mod Tick
 pub mod Core
--- what is claimed of all histories
+-- what is claimed: of all histories, of a draw, and case by case
 pub mod History
 pub mod Sameness
 pub mod Limits

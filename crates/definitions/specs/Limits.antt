@@ -67,7 +67,7 @@ pub record StateLimits (s : State) : Type 0 where
   pub clientLimits : (id : ℕ) → ClientLimits (s .clients id)
   -- "Ids run from 0 to 63."
   pub idsHigh : (id : ℕ) → ids ≤ id → s .clients id ≡ nobody
-  -- the order of acceptance has each indifferent packet that waits, and nothing else
+  -- the order of acceptance has each id as often as it has indifferent packets waiting
   pub orderWhole : (id : ℕ) → standing id (s .order) ≡ ordered (s .clients id)
 
 abbrev pub CoreLimits : Core → Type 0

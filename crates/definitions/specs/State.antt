@@ -9,7 +9,7 @@ pub record State : Type 0 where
   pub threshold : ℕ
   pub discipline : ℕ
   pub generator : ℕ
-  -- every number has a client, and those above 63 are never active
+  -- every number has a client; in a reached state those above 63 are not active
   pub clients : ℕ → Client
   -- the ids of the indifferent packets that wait, in the order in which the packets were accepted, under either discipline
   pub order : List ℕ

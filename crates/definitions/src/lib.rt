@@ -1,5 +1,5 @@
 // The types of the papers: what is handed to the core and what it answers. Their meaning stands in specs/.
-// Their numbers, too, as the code has them; for the proofs they stand in specs/Sizes.antt, and no two can disagree.
+// Their numbers, too, as the code has them; for the proofs they stand in specs/Sizes.antt, and where two disagree a proof fails.
 
 // How many ids there are, and how many places each has.
 pub const IDS: u32 = 64;

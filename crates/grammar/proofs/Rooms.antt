@@ -1,5 +1,5 @@
--- How much room a printout takes: a form is at least as long as its template, so a line prints at most thirteen bytes for each
--- of its own. Assumes nothing.
+-- What the room of a printout rests on: a line that holds a form is at least as long as its template, so has six bytes or more, and
+-- one without a form prints thirteen. Assumes nothing.
 use Prim.Native.Nat.{ℕ, suc, _+_, _≤_}
 use mathlib.Core.Path.{_≡_, refl}
 use mathlib.Core.Bool.{Bool, true, false, cond}

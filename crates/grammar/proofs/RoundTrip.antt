@@ -1,4 +1,4 @@
--- What a form of the grammar writes is read as that form: for every rule, and as many numbers as it takes, of any size.
+-- What a form of the grammar writes is read as that form, or as 17: for every rule, and as many numbers as it takes, of any size.
 -- The rule's template reads its numbers back, and the rules before it differ from it at a fixed byte, which antt computes.
 use Prim.Native.Nat.{ℕ}
 use mathlib.Core.Path.{_≡_, refl, _∙_}

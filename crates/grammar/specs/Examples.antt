@@ -17,7 +17,7 @@ PaperPrintout =
     (bytes "(open 1024 0 1)\n(join 2 (private 300))\n(join 5 (private 100))\n(join 3 (indifferent 200 1))\n(load 2 1)\n(arrive 2 (packet 17 64))\n(arrive 3 (packet 90 1518))\n(arrive 3 (packet 91 64))\n(tick)\n(tick)\n(tick)\n(tick)\n(arrive 5 (packet 40 63))\n")
     ≡ bytes "(ok)\n(ok)\n(ok)\n(ok)\n(ok)\n(ok)\n(ok)\n(refused 15)\n(slot (real 3 90 1518 0))\n(slot (idle 5))\n(slot (real 2 17 64 1454))\n(slot (dummy 2))\n(refused 13)\n"
 
--- lines of every bad kind
+-- bad lines of several kinds
 unfoldable pub BadPrintout : Type 0
 BadPrintout =
     printout

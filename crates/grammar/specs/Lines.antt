@@ -1,5 +1,5 @@
 -- "Each line prints one line" (paper 01, "Script and printout"): the lines of a text, the history that they tell, one call for each
--- that holds a form, and the lines of its printout, of which the n-th answers the n-th of the text.
+-- that holds a form, and the lines of its printout, of which the n-th answers the n-th of a text of at most 60,000 bytes.
 use Prim.Native.Nat.{ℕ, _≤_}
 use mathlib.Core.Path.{_≡_}
 use mathlib.Core.Bool.{true, false, cond}
@@ -54,6 +54,6 @@ unfoldable pub printedLines : History → List (List ℕ) → List (List ℕ)
 printedLines h [] = []
 printedLines h (line ∷ rest) = printedLine h (held line) ∷ printedLines (heard h (held line)) rest
 
--- a printout has one line for each line of its text, and that line is what this one prints there
+-- the printout of a text of at most 60,000 bytes has one line for each line of it, and that line is what this one prints there
 unfoldable pub LinesPrinted : Type 0
 LinesPrinted = (text : List ℕ) → length text ≤ textLimit → lines (printout text) ≡ printedLines start (lines text)

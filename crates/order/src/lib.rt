@@ -1,5 +1,5 @@
-// The order in which the waiting packets were accepted: a circular doubly linked list over the 2,048 places with one
-// sentinel, in one table that is lent. Every operation costs the same however many packets wait, and writes no packet.
+// The order in which the waiting packets of indifferent clients were accepted: a circular doubly linked list over the 2,048 places
+// with one sentinel, in one table that is lent. Every operation costs the same however many packets wait, and writes no packet.
 use definitions::IDS;
 use definitions::PLACES;
 ghost use mathlib.Core.Path.{_≡_};

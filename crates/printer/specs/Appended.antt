@@ -1,5 +1,5 @@
 -- A text that is written into bytes from a place on, and the place behind it, where the next text goes on.
--- The text stands within the bytes, and `sets` of the library stores it there and leaves all others as they were.
+-- The text stands within the bytes, and `sets` of the library stores it there and leaves all other bytes as they were.
 use Prim.Native.Nat.{ℕ, _+_, _≤_}
 use mathlib.Core.Path.{_≡_}
 use mathlib.Core.List.{List}

@@ -292,7 +292,7 @@ fn spend(
     }
 }
 
-// Refills the bucket of every marked id where it is kept. Where most ids are marked, it is quicker to go through all.
+// Refills the bucket of every marked id where it is kept. Where many ids are marked, it is quicker to go through all.
 fn refill_all(word: u64, clients: &mut [u32; CLIENTS])
     requires { ⌜ Refillable word (now clients) ⌝ }
     ensures { λ r. ⌜ Refilled word (now (clients .entry)) (now (clients .exit)) ⌝ }

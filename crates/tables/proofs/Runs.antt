@@ -1,6 +1,6 @@
 -- A run of the code is the trace of the definitions, however long it is and whatever is called: its answers are theirs, and its
--- tables mean the core that they reach. So what is claimed of all histories is so of all runs. By induction over the run.
--- Assumes nothing but the promises that a run is made of.
+-- tables mean the core that they reach. By induction over the run. So demand 3 of all histories is so of all runs, and no run got the
+-- answer by which a scheduler differs. Assumes nothing but the promises that a run is made of.
 use Prim.Native.Nat.{ℕ}
 use mathlib.Core.Path.{_≡_, refl, sym, ap, ap₂, _∙_}
 use Rattle.definitions.specs.declared.Call.{Call}

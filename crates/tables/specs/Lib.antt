@@ -1,4 +1,4 @@
--- What the tables of the core mean, when they are valid, and what each call promises.
+-- What the tables of the core mean, when they are valid, what each call promises, and what is claimed of runs of calls.
 pub mod Tables
 pub mod Meaning
 pub mod Invariant

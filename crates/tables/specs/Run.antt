@@ -1,7 +1,7 @@
 -- A run of the code: calls one after the other from an unopened core, each keeping its promise, with the answers that they
 -- gave. `CodeSameness` is demand 3 for any two runs: "one claim about two whole histories of any length, not a claim for each
--- call" (paper 01, "Two histories"). What is compared is what the definitions compare: the answers are those of the code,
--- and what a client holds and whom a slot picks is what the tables mean.
+-- call" (paper 01, "Two histories"). What is compared is what the definitions compare: the answers are those of the code, and
+-- what a client holds and whom a slot picks is read off the core that the tables mean.
 use Prim.Native.Nat.{ℕ}
 use mathlib.Core.Path.{_≡_}
 use mathlib.Core.Logic.{_≢_}
@@ -86,8 +86,8 @@ pub record CodeLimits : Type 0 where
   pub limits : (run : Run) → CoreLimits (coreAfter run)
   pub fits : (run : Run) → HistoryFits (callsOf (run .trace)) → CoreFits (coreAfter run)
 
--- No run is one of the wrong versions: where a history shows that a scheduler differs, any run of that history and the call
--- behind it got another answer than that scheduler gives.
+-- What keeps the promise is none of the wrong versions: where a history and a call behind it show that a scheduler differs, every
+-- run of that history and that call got another answer to it than that scheduler gives.
 unfoldable pub NeverWrong : Type 1
 NeverWrong =
     (S : Scheduler) (wrong : Differs S) (run : Run) (before : Trace) (last : Dealing)

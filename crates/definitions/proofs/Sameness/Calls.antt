@@ -1,6 +1,7 @@
 -- The six calls other than tick against erasure. A kept call gets the same answer from a core and from its erasure, and
 -- leaves cores that are erased alike; an arrive or load of a private neighbour, or of nobody, leaves the erasure as it was.
--- The tests of a call read the kinds, the rates and the client that the call names, none of which is erased. Assumes nothing.
+-- The tests of a kept call read kinds and rates, and those of a kept arrive or load the client that it names: none of it is erased.
+-- Assumes nothing.
 use Prim.Native.Nat.{ℕ}
 use mathlib.Core.Path.{_≡_, refl, sym, ap, _∙_}
 use mathlib.Core.Bool.{Bool, true, false, cond, not, _&&_}
