@@ -3,15 +3,17 @@
 -- answer by which a scheduler differs. Assumes nothing but the promises that a run is made of.
 use Prim.Native.Nat.{ℕ}
 use mathlib.Core.Path.{_≡_, refl, sym, ap, ap₂, _∙_}
+use mathlib.Core.Bool.{Bool, true, false}
 use Rattle.definitions.specs.declared.Call.{Call}
 use Rattle.definitions.specs.declared.Answer.{Answer}
 use Rattle.definitions.specs.declared.Answer.the-variants.{Accepted}
-use Rattle.definitions.specs.State.{Core}
+use Rattle.definitions.specs.State.{Core, unopened, running}
 use Rattle.definitions.specs.Core.{step}
 use Rattle.definitions.specs.History.{Place, end, before, calls, Trace, begin, _and_, Holdings, after, answerAt, dealingAt, traceOf, pickOf, holdingsOf, scheduler}
 use Rattle.definitions.specs.Sameness.{kept, LooksSame, Sameness}
 use Rattle.definitions.specs.Limits.{Limits}
 use Rattle.definitions.specs.Fits.{Fits}
+use Rattle.definitions.proofs.Laws.Tests.{true-false}
 use Rattle.definitions.proofs.Sameness.Theorem.{sameness}
 use Rattle.definitions.proofs.Limits.{limits}
 use Rattle.definitions.proofs.Fits.{fits}
@@ -19,15 +21,31 @@ use Rattle.tables.specs.declared.Control.{Control}
 use Rattle.tables.specs.declared.Answered.{Answered}
 use Rattle.tables.specs.Tables.{Tables}
 use Rattle.tables.specs.Meaning.{coreOf}
+use Rattle.tables.specs.Invariant.{Valid}
 use Rattle.tables.specs.Promise.{Meets}
-use Rattle.tables.specs.Run.{dealing, Reached, begun, called, Run, coreAfter, PlaceOf, CodeSameness, callsOf, CodeDefined, CodeLimits, NeverWrong}
+use Rattle.tables.specs.Run.{dealing, Reached, begun, called, Run, coreAfter, PlaceOf, CodeSameness, CodeValid, callsOf, CodeDefined, CodeLimits, NeverWrong}
 use Rattle.tables.specs.Run as run
+use Rattle.tables.proofs.Promises.{coreOf-opened}
+
+runs : Core → Bool
+runs unopened = false
+runs (running s) = true
 
 -- the tables mean the core that the definitions reach
 reached-core : {t : Trace} {c : Control} {m : Tables} → Reached t c m → coreOf c m ≡ after scheduler (callsOf t)
 unfolding after callsOf
 reached-core (begun e) = e
 reached-core (called {call = call} run m) = m .core ∙ ap (λ (x : Core). step x call .core) (reached-core run)
+
+-- an unopened core asks nothing of its tables, and each call leaves them valid
+reached-valid : {t : Trace} {c : Control} {m : Tables} → Reached t c m → Valid c m
+unfolding runs
+reached-valid (begun {c} {t} e) = λ o. true-false (ap runs (coreOf-opened c t o)) (ap runs e)
+reached-valid (called run m) = m .valid
+
+pub run-valid : CodeValid
+unfolding CodeValid
+run-valid run = reached-valid (run .reached)
 
 -- the next call is dealt with as the definitions say
 reached-dealing : {t : Trace} {c : Control} {m u : Tables} {call : Call} {r : Answered}

@@ -16,6 +16,7 @@ use Rattle.tables.specs.declared.Control.{Control}
 use Rattle.tables.specs.declared.Answered.{Answered}
 use Rattle.tables.specs.Tables.{Tables}
 use Rattle.tables.specs.Meaning.{coreOf}
+use Rattle.tables.specs.Invariant.{Valid}
 use Rattle.tables.specs.Promise.{Meets}
 
 -- what was dealt where a call on control c and tables t gave r
@@ -67,6 +68,10 @@ CodeSameness =
     → PlaceOf q Q
     → calls (kept chosen (r .trace)) ≡ calls (kept chosen (q .trace))
     → LooksSame chosen (r .trace) (holdingsOf (coreAfter r)) (q .trace) (holdingsOf (coreAfter q))
+
+-- Wherever a run has come, what a call requires holds: so any call may be made next.
+unfoldable pub CodeValid : Type 0
+CodeValid = (run : Run) → Valid (run .control) (run .tables)
 
 -- the calls of a trace, without what they got
 unfoldable pub callsOf : Trace → History

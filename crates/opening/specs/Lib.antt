@@ -1,0 +1,2 @@
+-- That there are runs of the code.
+pub mod Openings

@@ -1,0 +1,12 @@
+-- There are runs of the code, so that what is claimed of them (crates/tables, Run) is not empty: one before any call and, behind
+-- any run, a further one with an open, accepted or refused.
+use Prim.Native.Nat.{ℕ}
+use mathlib.Core.Path.{_≡_}
+use Rattle.definitions.specs.declared.Call.the-variants.{Open}
+use Rattle.definitions.specs.History.{start, _then_}
+use Rattle.tables.specs.Run.{Run, callsOf}
+
+pub record Openings : Type 0 where
+  pub none : (run : Run) × (callsOf (run .trace) ≡ start)
+  pub more : (run : Run) (threshold discipline seed : ℕ)
+      → (further : Run) × (callsOf (further .trace) ≡ callsOf (run .trace) then Open threshold discipline seed)
