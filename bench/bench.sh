@@ -1,6 +1,6 @@
 #!/bin/bash
 # Benchmarks the proved slot core (libbench.a) and the program slots against the plain ones, in time and instructions.
-#   bench.sh [--stub] [--calls] [--scripts] [FOLDER]
+#   bench.sh [--stub] [--calls | --lto] [--scripts] [FOLDER]
 # Run it in the repository's root. Everything is built into FOLDER (default: target/bench). Both cores are inlined into their sequences.
 #   --stub     links stub.c in place of libbench.a, to try the benchmark itself; no scripts
 #   --scripts  only the scripts
@@ -35,11 +35,9 @@ find_proved() {
         return
     fi
     local said=$temporary/staticlib also=()
-    if command -v rt >/dev/null; then
-        RT_CUT=0 rt staticlib bench >"$said" 2>&1 || { cat "$said" >&2; exit 1; }
-        cat "$said" >&2
-        read -ra also < <(sed -n 's/.*; link \(.*\) beside it$/\1/p' "$said"; echo)
-    fi
+    RT_CUT=0 rt staticlib bench >"$said" 2>&1 || { cat "$said" >&2; exit 1; }
+    cat "$said" >&2
+    read -ra also < <(sed -n 's/.*; link \(.*\) beside it$/\1/p' "$said"; echo)
     [ -f target/staticlib/libbench.a ] || { echo "bench.sh: no target/staticlib/libbench.a" >&2; exit 1; }
     proved=(target/staticlib/libbench.a "${also[@]}")
 }
@@ -59,8 +57,12 @@ build() {
     gcc $flags $lto -c "$here/sequence.c" -o "$out/sequence.o"
     gcc $flags -c "$here/harness.c" -o "$out/harness.o"
     gcc $flags $lto "$out"/{harness,sequence,plain}.o "${proved[@]}" -o "$out/harness"
-    [ -z "$lto" ] || ! nm "$out/harness" | grep -E ' plain_(open|join|change|leave|load|arrive|tick)' ||
-        { echo "bench.sh: gcc left the plain core behind calls" >&2; exit 1; }
+    local symbols
+    symbols=$(nm "$out/harness")
+    if [ -n "$lto" ] && grep -E ' plain_(open|join|change|leave|load|arrive|tick)' <<<"$symbols"; then
+        echo "bench.sh: gcc left the plain core behind calls" >&2
+        exit 1
+    fi
 }
 
 # instructions WHICH INDEX ROUNDS: the instructions of one run, start of the program included
@@ -163,6 +165,7 @@ scripts() {
     for name in calls ticks "line feeds" "all seven calls" joins changes loads arrivals "refused arrivals" "ticks of 64 private clients" \
         "ticks with nobody" "lines without a form" "one line" "an empty script"; do
         script "$name" >"$text" || true # head stops reading before the end
+        [ "$name" = "an empty script" ] || [ "$(wc -c <"$text")" = 60000 ] || { echo "bench.sh: no script of $name" >&2; exit 1; }
         target/bin/slots <"$text" >"$temporary/proved"
         "$plain" <"$text" >"$temporary/plain"
         cmp "$temporary/proved" "$temporary/plain"

@@ -18,15 +18,16 @@ judge() { # fault, test, what was found, what should be, the test's own words
     fi
 }
 
-# Runs a test that ends with 0 if it found no difference.
+# Runs a test that ends with 0 if it found no difference, and with 1 if it found one.
 try() { # fault, test, caught or not seen, the test's arguments
     fault=$1 test=$2 wanted=$3
     shift 3
-    if "$build/$test" "$folder/slots" "$@" >"$folder/$test.txt"; then
-        judge "$fault" "$test" "not seen" "$wanted" "$(tail -n 1 "$folder/$test.txt")"
-    else
-        judge "$fault" "$test" caught "$wanted" "$(head -n 1 "$folder/$test.txt")"
-    fi
+    "$build/$test" "$folder/slots" "$@" >"$folder/$test.txt"
+    case $? in
+    0) judge "$fault" "$test" "not seen" "$wanted" "$(tail -n 1 "$folder/$test.txt")" ;;
+    1) judge "$fault" "$test" caught "$wanted" "$(head -n 1 "$folder/$test.txt")" ;;
+    *) judge "$fault" "$test" "not tried" "$wanted" "the test itself failed" ;;
+    esac
 }
 
 "$build/long" 1 3 >"$build/long.txt"
@@ -45,7 +46,9 @@ for fault in 1 2 3 4 5 5b 6; do
     try $fault pairs "$in_pairs" 1 300
     try $fault stretches "$in_stretches" 1 1
     "$folder/long" 1 3 >"$folder/long.txt"
-    if cmp "$build/long.txt" "$folder/long.txt" >"$folder/cmp.txt"; then found="not seen"; else found=caught; fi
+    if [ "$(cat "$build/long.txt" "$folder/long.txt" | wc -l)" != 6 ]; then found="not tried"
+    elif cmp "$build/long.txt" "$folder/long.txt" >"$folder/cmp.txt"; then found="not seen"
+    else found=caught; fi
     judge $fault "the long run" "$found" caught "$(sed 's/.*, //' "$folder/cmp.txt")"
 done
 echo "$passed passed, $failed failed"

@@ -47,8 +47,14 @@ check "an input that pauses in the middle of a line is waited for" \
     '{ head -c 50 $script; sleep 1; tail -c +51 $script; } | $slots | cmp - $printout'
 check "an input without end is refused with 18 as soon as it is too long" \
     '[ "$(yes "(tick)" | $slots)" = "(refused 18)" ] && [ "$($slots </dev/zero)" = "(refused 18)" ]'
+check "of a text that is too long 65,536 bytes are read" \
+    'head -c 200000 /dev/zero >$folder/long; [ "$({ $slots >/dev/null; wc -c; } <$folder/long)" = $((200000 - 65536)) ]'
 check "a reader that closes early does no harm" \
     '[ "$(yes "" | head -c 60000 | $slots | head -n 1)" = "(refused 16)" ]'
+check "a reader that closes early is told on standard error, if the signal is ignored" \
+    'trap "" PIPE; $slots <$folder/feeds 2>$folder/err | head -n 1 >$folder/out; grep -q "^slots: standard output: Broken pipe" $folder/err'
+check "the status is 0 where reading or writing fails" \
+    '$slots <$script 2>$folder/err >/dev/full && $slots <&- 2>$folder/err && (trap "" PIPE; set -o pipefail; $slots <$folder/feeds 2>$folder/err | true)'
 check "nothing is written to standard error where all is well" \
     '$slots <$script 2>&1 | cmp - $printout'
 echo "$passed passed, $failed failed"

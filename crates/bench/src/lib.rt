@@ -159,13 +159,13 @@ fn refused_round(
     ensures { λ r. ⌜ Valid (r .control)
         (tables (now (clients .exit)) (now (handles .exit)) (now (lengths .exit)) (now (links .exit))) ⌝ }
 {
-    let none = beyond + k % 8;
-    let nobody = beyond + k % 4;
-    let far = packet(k, 64);
+    let no_sender = beyond + k % 8;
+    let no_loader = beyond + k % 4;
+    let right = packet(k, 64);
     let short = packet(k, 63);
-    let a = traffic::arrive(control, clients, handles, lengths, links, none, far);
+    let a = traffic::arrive(control, clients, handles, lengths, links, no_sender, right);
     let first = a.answer;
-    let b = traffic::load(a.control, clients, handles, lengths, links, nobody, k);
+    let b = traffic::load(a.control, clients, handles, lengths, links, no_loader, k);
     let second = b.answer;
     let c = settings::join(b.control, clients, handles, lengths, links, id, 2, 1, 0);
     let third = c.answer;

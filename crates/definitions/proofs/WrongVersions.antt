@@ -15,22 +15,22 @@ use Rattle.definitions.specs.Answers.{real, dummy, idle, none, shown, is
 use Rattle.definitions.specs.Cases.{arrival, arrivals}
 use Rattle.definitions.specs.History.{History, start, _then_, Scheduler, after, answerAt, scheduler}
 use Rattle.definitions.specs.Sameness.{isTick}
-use Rattle.definitions.specs.Altered.{withTick, slotBy, withArrive, roomLeft, tokenLeft, arriveIf}
+use Rattle.definitions.specs.Altered.{withTick, slotBy, withArrive, roomLeft, tokenLeft, arriveIf, Unaltered}
 use Rattle.definitions.specs.WrongVersions.{Differs, unsent, alwaysDummy, idleOnceTicked, laterIdle, twoRoomsLeft, fullEarly, moreThanToken, drainedEarly, lowestTurn, lowestId, forgotten, notKept, refusesAll, alwaysNone, AllDiffer}
 use Rattle.definitions.proofs.Laws.Tests.{true-false}
 use Rattle.definitions.proofs.Everything.{everything}
 
 -- a history of an open, with first come first served and seed 1, and some calls
-toldFrom : History → List Call → History
-toldFrom h [] = h
-toldFrom h (c ∷ cs) = toldFrom (h then c) cs
+followed : History → List Call → History
+followed h [] = h
+followed h (c ∷ cs) = followed (h then c) cs
 
 opening : List Call → History
-opening cs = toldFrom (start then Open 1024 0 1) cs
+opening cs = followed (start then Open 1024 0 1) cs
 
 -- what the claims below compute with
 unfoldable computed : Type 0
-unfolding everything after answerAt isTick toldFrom opening withTick slotBy withArrive roomLeft tokenLeft arriveIf
+unfolding everything after answerAt isTick followed opening withTick slotBy withArrive roomLeft tokenLeft arriveIf
 computed = Unit {0}
 
 -- two answers that show different numbers at some place
@@ -108,3 +108,7 @@ all-differ = record {
   refusesAll-differs = refusesAll-differs;
   alwaysNone-differs = alwaysNone-differs;
 }
+
+pub unaltered : Unaltered
+unfolding computed
+unaltered = record { tick = λ s. refl; arrive = λ s id p. refl }

@@ -1,5 +1,6 @@
 -- The calls as they are defined, but for one of them: of these the leaks of paper 01 are made, and most of its wrong versions.
 use Prim.Native.Nat.{ℕ}
+use mathlib.Core.Path.{_≡_}
 use mathlib.Core.Bool.{Bool, cond, not, _||_}
 use mathlib.Core.List.{[], _∷_}
 use lib.Dec.{leb, ltb}
@@ -11,9 +12,9 @@ use Rattle.definitions.specs.declared.Answer.the-variants.{Slot}
 use Rattle.definitions.specs.Sizes.{places, shares, shortest, longest}
 use Rattle.definitions.specs.State.{State, Core, running}
 use Rattle.definitions.specs.Checks.{Result, check, accepted, checked, within, activeChecks}
-use Rattle.definitions.specs.Calls.{updated, orderAfterArrival}
+use Rattle.definitions.specs.Calls.{updated, orderAfterArrival, onArrive}
 use Rattle.definitions.specs.Client.{isIndifferent, queued}
-use Rattle.definitions.specs.Tick.{Turn, outcomeBy, slotted}
+use Rattle.definitions.specs.Tick.{Turn, turn, outcomeBy, slotted, onTick}
 use Rattle.definitions.specs.Core.{whenOpened, step}
 use Rattle.definitions.specs.History.{Scheduler, pickIn, schedulerBy}
 use Rattle.definitions.specs.Sameness.{isTick}
@@ -66,3 +67,8 @@ withChange change core (Leave id) = step core (Leave id)
 withChange change core (Load id dummies) = step core (Load id dummies)
 withChange change core (Arrive id p) = step core (Arrive id p)
 withChange change core Tick = step core Tick
+
+-- With the turn, the room and the token of the definitions, these are the tick and the arrive that they alter.
+pub record Unaltered : Type 0 where
+  pub tick : (s : State) → slotBy turn s ≡ onTick s
+  pub arrive : (s : State) (id : ℕ) (p : Packet) → arriveIf roomLeft tokenLeft s id p ≡ onArrive s id p

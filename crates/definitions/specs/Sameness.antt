@@ -130,11 +130,6 @@ pub record LooksSame (chosen : ℕ) (t : Trace) (x : Holdings) (u : Trace) (y : 
   pub indifferentDealings : (id : ℕ) → SameDealings chosen id (indifferentAt id) t u
   pub indifferentHoldings : (id : ℕ) → T (indifferentAt id t) → SameHoldings id x y
 
--- the opens, joins, changes and leaves of a history
-unfoldable pub settingsOf : History → History
-settingsOf start = start
-settingsOf (h then c) = cond (isSetting c) (settingsOf h then c) (settingsOf h)
-
 module _ (S : Scheduler) where
   -- Any chosen client, any two histories whose kept calls "agree in order and arguments", and any place of either at which
   -- both have as many kept calls behind them.
@@ -148,6 +143,12 @@ module _ (S : Scheduler) where
       → calls (kept chosen (traceOf S h)) ≡ calls (kept chosen (traceOf S k))
       → LooksSame chosen (traceOf S h) (S .holdings (after S h)) (traceOf S k) (S .holdings (after S k))
 
+-- the opens, joins, changes and leaves of a history
+unfoldable pub settingsOf : History → History
+settingsOf start = start
+settingsOf (h then c) = cond (isSetting c) (settingsOf h then c) (settingsOf h)
+
+module _ (S : Scheduler) where
   -- and what they get, latest first
   unfoldable pub settingAnswers : History → List Answer
   settingAnswers start = []

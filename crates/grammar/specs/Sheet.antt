@@ -1,6 +1,6 @@
 -- Demand 3 on paper (paper 01, "Two histories"): a text and its printout side by side, line by line. What is compared is bytes of two
--- printouts. Whom a private neighbour's slot picked, and what clients hold, only `Sameness` compares: its line tells more than the
--- pick, and the rest is not printed.
+-- printouts. Which private neighbour a slot picked, and what clients hold, only `Sameness` compares: the line of such a slot tells
+-- more than the pick, and the rest is not printed.
 use Prim.Native.Nat.{ℕ, _≤_}
 use mathlib.Core.Path.{_≡_}
 use mathlib.Core.Bool.{Bool, true, cond, _&&_}
@@ -19,7 +19,7 @@ abbrev pub Sheet : Type 0
 Sheet = List (List ℕ × List ℕ)
 
 abbrev pub sheet : List ℕ → List ℕ → Sheet
-sheet text paper = zip (lines text) (lines paper)
+sheet text answers = zip (lines text) (lines answers)
 
 module _ (chosen : ℕ) where
   -- the calls that are kept of some lines
@@ -29,9 +29,9 @@ module _ (chosen : ℕ) where
   module _ (which : Trace → Dealing → Bool) where
     -- of a line that holds such a call, the printed line beside it, with the call's number among the kept calls
     unfoldable pub noted : History → Line → List ℕ → List (ℕ × List ℕ)
-    noted h (Form call) paper =
-        cond (which (traceOf scheduler h) (dealingAt scheduler h call)) ((calls (kept chosen (traceOf scheduler h)), paper) ∷ []) []
-    noted h (Unread n) paper = []
+    noted h (Form call) answer =
+        cond (which (traceOf scheduler h) (dealingAt scheduler h call)) ((calls (kept chosen (traceOf scheduler h)), answer) ∷ []) []
+    noted h (Unread n) answer = []
 
     unfoldable pub notedFrom : History → Sheet → List (ℕ × List ℕ)
     notedFrom h [] = []

@@ -1,5 +1,5 @@
--- There are runs: the cleared tables with an unopened control are one, and an open in the code meets its promise wherever a
--- run has come (Emptiness). Assumes nothing.
+-- There are runs: the cleared tables with an unopened control are one, and wherever a run has come there are control and tables
+-- with which an open keeps its promise (Emptiness). Assumes nothing.
 use Prim.Native.Nat.{ℕ, zero, suc}
 use mathlib.Core.Path.{_≡_, refl, sym}
 use mathlib.Core.Bool.{false}

@@ -1,2 +1,2 @@
--- That there are runs of the code.
+-- That there are runs, of opens.
 pub mod Openings

@@ -1,5 +1,5 @@
--- There are runs of the code, so that what is claimed of them (crates/tables, Run) is not empty: one before any call and, behind
--- any run, a further one with an open, accepted or refused.
+-- There are runs as crates/tables, Run, speaks of them: one before any call and, behind any run, a further one with an open, accepted
+-- or refused. That any other call may follow is `CodeValid` there, with that call's contract.
 use Prim.Native.Nat.{ℕ}
 use mathlib.Core.Path.{_≡_}
 use Rattle.definitions.specs.declared.Call.the-variants.{Open}
