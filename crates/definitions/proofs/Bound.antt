@@ -9,8 +9,7 @@ use native.Mathlib.Omega.{arith}
 use lib.Dec.{T, eqb, leb, lit<}
 use borrow.Author.Tests.{eqb-false, eq-eqb, ne-eqb, leb-true}
 use Rattle.definitions.specs.declared.Packet.{Packet}
-use Rattle.definitions.specs.declared.Call.{Call}
-use Rattle.definitions.specs.declared.Call.the-variants.{Open, Join, Change, Leave, Load, Arrive, Tick}
+use Rattle.definitions.specs.Event.{Event, Open, Join, Change, Leave, Load, Arrive, Tick}
 use Rattle.definitions.specs.Sizes.{shares}
 use Rattle.definitions.specs.Client.{Client, isIndifferent, nobody, joining, changed, loaded, queued, spent, refilled}
 use Rattle.definitions.specs.State.{State, Core, unopened, running, fresh, put, without}
@@ -130,11 +129,11 @@ module _ (s : State) (id : ℕ) where
   }
 
 -- whether a call, answered so, is an accepted arrival of the client
-abbrev taking : ℕ → Call → Result → Bool
+abbrev taking : ℕ → Event → Result → Bool
 taking id c r = (isArrival c && names id c) && isAccepted (r .answer)
 
 -- what each call does to an indifferent client that it does not reset
-step-moved : (core : Core) (id : ℕ) (c : Call)
+step-moved : (core : Core) (id : ℕ) (c : Event)
     → T (isIndifferent (clientOf core id .kind))
     → T (not (resets id c && isAccepted (step core c .answer)))
     → Moved (cond (taking id c (step core c)) shares 0) (cond (isTick c) (clientOf core id .rate) 0)
@@ -147,15 +146,15 @@ step-moved (running s) id (Open threshold discipline seed) indifferently spared 
     checked-moved s id true false (openChecks threshold discipline seed) (fresh threshold discipline seed)
     (λ passed kept. absurd (true≢false kept))
     spared
-step-moved (running s) id (Join other type rate burst) indifferently spared =
-    checked-moved s id (eqb other id) false (joinChecks s other type rate burst)
-    (updated s other (joining type rate burst) (s .order))
-    (λ passed. other-moved s id other (joining type rate burst))
+step-moved (running s) id (Join other kind rate burst) indifferently spared =
+    checked-moved s id (eqb other id) false (joinChecks s other kind rate burst)
+    (updated s other (joining kind rate burst) (s .order))
+    (λ passed. other-moved s id other (joining kind rate burst))
     spared
-step-moved (running s) id (Change other type rate burst) indifferently spared =
-    checked-moved s id (eqb other id) false (changeChecks s other type rate burst)
-    (updated s other (changed (s .clients other) type rate burst) (orderAfterChange s other type))
-    (λ passed. other-moved s id other (changed (s .clients other) type rate burst))
+step-moved (running s) id (Change other kind rate burst) indifferently spared =
+    checked-moved s id (eqb other id) false (changeChecks s other kind rate burst)
+    (updated s other (changed (s .clients other) kind rate burst) (orderAfterChange s other kind))
+    (λ passed. other-moved s id other (changed (s .clients other) kind rate burst))
     spared
 step-moved (running s) id (Leave other) indifferently spared =
     checked-moved s id (eqb other id) false (leaveChecks s other)
@@ -175,7 +174,7 @@ step-moved (running s) id (Arrive other p) indifferently spared =
 step-moved (running s) id Tick indifferently spared = tick-moved s id
 
 -- what the arrivals that are accepted in a stretch cost
-stretch-cost : (id : ℕ) (stretch : List Call) (core : Core)
+stretch-cost : (id : ℕ) (stretch : List Event) (core : Core)
     → T (isIndifferent (clientOf core id .kind))
     → T (undisturbed id core stretch)
     → acceptances id core stretch * shares ≤ clientOf core id .level + ticks stretch * clientOf core id .rate

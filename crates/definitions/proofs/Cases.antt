@@ -50,14 +50,14 @@ holds : {c : Case} {table : List Case} (n : ℕ) → List·Memᴰ c table → fa
 holds n (List·Memᴰ·head {x} {xs} e) none = rw e (sameNumbers-true (x .given) (x .wanted) (first-same x xs n none))
 holds n (List·Memᴰ·tail {x} {xs} m) none = holds (suc n) m (rest-same x xs n none)
 
-pub casesHold : Holds cases
+pub cases-hold : Holds cases
 unfolding everything failing sameNumbers ran said stream targetAt waiting opened cases
-casesHold c m = holds 1 m refl
+cases-hold c m = holds 1 m refl
 
-pub samplesHold : Holds samples
+pub samples-hold : Holds samples
 unfolding everything failing sameNumbers taken samples
-samplesHold c m = holds 1 m refl
+samples-hold c m = holds 1 m refl
 
-pub printoutHolds : Holds printout
+pub printout-holds : Holds printout
 unfolding everything failing sameNumbers ran said targetAt printout
-printoutHolds c m = holds 1 m refl
+printout-holds c m = holds 1 m refl

@@ -1,5 +1,5 @@
 -- Every shut definition of the calls under one name: a proof that computes with concrete calls unfolds this one.
-use Rattle.definitions.specs.Sizes.{ids, places, poolLimit, shares, burstLimit, shortest, longest, indifferentType, privateType, throws, firstCome, weightedDraw}
+use Rattle.definitions.specs.Sizes.{ids, places, poolLimit, shares, burstLimit, shortest, longest, indifferentKind, privateKind, throws, firstCome, weightedDraw}
 use Rattle.definitions.specs.Generator.{xorLeft, xorRight, stepped}
 use Rattle.definitions.specs.Sample.{evenSpan, sampleFrom, sample}
 use Rattle.definitions.specs.Draw.{sumBelow, firstFrom, drawnAt, draw}
@@ -13,7 +13,7 @@ use Rattle.definitions.specs.Core.{step}
 use Rattle.definitions.specs.History.{calls, clientOf, generatorOf, pickOf}
 
 unfoldable pub everything : Type 0
-unfolding ids places poolLimit shares burstLimit shortest longest indifferentType privateType throws firstCome weightedDraw
+unfolding ids places poolLimit shares burstLimit shortest longest indifferentKind privateKind throws firstCome weightedDraw
     xorLeft xorRight stepped evenSpan sampleFrom sample sumBelow firstFrom drawnAt draw kindOf joining retuned changed loaded queued spent refilled
     fresh put without withoutFirst earliest number values word shown isAccepted bears isDeparture checked within activeRate rates
     burstFits openChecks termChecks joinChecks activeChecks changeChecks leaveChecks loadChecks arriveChecks onOpen updated onJoin

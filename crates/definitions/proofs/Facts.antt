@@ -8,7 +8,7 @@ use native.Mathlib.Omega.{arith}
 use native.Mathlib.Nat.{le-of-eq}
 use lib.Dec.{eqb-refl}
 use borrow.Author.Tests.{eq-eqb, ne-eqb, le-leb, lt-leb, le-ltb}
-use Rattle.definitions.specs.declared.Call.the-variants.{Open, Join, Change, Leave, Load, Arrive, Tick}
+use Rattle.definitions.specs.Event.{Open, Join, Change, Leave, Load, Arrive, Tick}
 use Rattle.definitions.specs.declared.Answer.the-variants.{Accepted}
 use Rattle.definitions.specs.Sizes.{poolLimit, firstCome}
 use Rattle.definitions.specs.Draw.{draw}
@@ -46,24 +46,24 @@ tick-facts = record {
 }
 
 -- an accepted change makes of its client what `changed` says
-change-client : (s : State) (id type rate burst : ℕ)
-    → onChange s id type rate burst .answer ≡ Accepted
-    → clientOf (onChange s id type rate burst .core) id ≡ changed (s .clients id) type rate burst
+change-client : (s : State) (id kind rate burst : ℕ)
+    → onChange s id kind rate burst .answer ≡ Accepted
+    → clientOf (onChange s id kind rate burst .core) id ≡ changed (s .clients id) kind rate burst
 unfolding onChange clientOf updated
-change-client s id type rate burst ok =
-    rw (checked-accepted (changeChecks s id type rate burst) (running s) _ ok) (put-same (s .clients) id _)
+change-client s id kind rate burst ok =
+    rw (checked-accepted (changeChecks s id kind rate burst) (running s) _ ok) (put-same (s .clients) id _)
 
 pub change-facts : ChangeFacts
 unfolding changed retuned joining onChange checked changeChecks activeChecks termChecks
 change-facts = record {
-  change-keeps = λ s id type rate burst ok k.
-      rw (change-client s id type rate burst ok, ← k, sameKind-refl)
+  change-keeps = λ s id kind rate burst ok k.
+      rw (change-client s id kind rate burst ok, ← k, sameKind-refl)
       (record { queue-is = refl; pool-is = refl; level-is = refl });
-  change-empties = λ s id type rate burst ok k.
-      rw (change-client s id type rate burst ok, sameKind-false (s .clients id .kind) (kindOf type) k)
+  change-empties = λ s id kind rate burst ok k.
+      rw (change-client s id kind rate burst ok, sameKind-false (s .clients id .kind) (kindOf kind) k)
       (record { queue-is = refl; pool-is = refl; level-is = refl });
-  change-within = λ s id type rate burst p h. rw (p .named, p .active, p .typed, p .rated, p .fits, le-leb _ _ h);
-  change-past = λ s id type rate burst p h. rw (p .named, p .active, p .typed, p .rated, p .fits, lt-leb _ _ h);
+  change-within = λ s id kind rate burst p h. rw (p .named, p .active, p .typed, p .rated, p .fits, le-leb _ _ h);
+  change-past = λ s id kind rate burst p h. rw (p .named, p .active, p .typed, p .rated, p .fits, lt-leb _ _ h);
 }
 
 -- a call with checks that is refused, by 19 or by a check, leaves the core as it was
@@ -81,8 +81,8 @@ check-facts = record {
   open-kept = λ core threshold discipline seed. checked-kept (openChecks threshold discipline seed) core _;
   unopened-refuses = elim [
     | Open threshold discipline seed ↦ λ e. cc
-    | Join id type rate burst ↦ λ e. refl
-    | Change id type rate burst ↦ λ e. refl
+    | Join id kind rate burst ↦ λ e. refl
+    | Change id kind rate burst ↦ λ e. refl
     | Leave id ↦ λ e. refl
     | Load id dummies ↦ λ e. refl
     | Arrive id packet ↦ λ e. refl
@@ -90,8 +90,8 @@ check-facts = record {
   ];
   step-refused = λ core. elim [
     | Open threshold discipline seed ↦ λ n e. checked-kept (openChecks threshold discipline seed) core _ (refused-differs e)
-    | Join id type rate burst ↦ λ n e. whenOpened-kept core (λ s. joinChecks s id type rate burst) _ (refused-differs e)
-    | Change id type rate burst ↦ λ n e. whenOpened-kept core (λ s. changeChecks s id type rate burst) _ (refused-differs e)
+    | Join id kind rate burst ↦ λ n e. whenOpened-kept core (λ s. joinChecks s id kind rate burst) _ (refused-differs e)
+    | Change id kind rate burst ↦ λ n e. whenOpened-kept core (λ s. changeChecks s id kind rate burst) _ (refused-differs e)
     | Leave id ↦ λ n e. whenOpened-kept core (λ s. leaveChecks s id) _ (refused-differs e)
     | Load id dummies ↦ λ n e. whenOpened-kept core (λ s. loadChecks s id dummies) _ (refused-differs e)
     | Arrive id packet ↦ λ n e. whenOpened-kept core (λ s. arriveChecks s id packet) _ (refused-differs e)

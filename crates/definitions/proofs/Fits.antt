@@ -7,8 +7,7 @@ use mathlib.Core.List.{List, [], _∷_, _++_, tail}
 use native.Mathlib.Omega.{arith}
 use lib.Dec.{eqb}
 use Rattle.definitions.specs.declared.Packet.{Packet}
-use Rattle.definitions.specs.declared.Call.{Call}
-use Rattle.definitions.specs.declared.Call.the-variants.{Open, Join, Change, Leave, Load, Arrive, Tick}
+use Rattle.definitions.specs.Event.{Event, Open, Join, Change, Leave, Load, Arrive, Tick}
 use Rattle.definitions.specs.Sizes.{numberLimit, handleLimit, firstCome}
 use Rattle.definitions.specs.Draw.{draw}
 use Rattle.definitions.specs.Client.{kindOf, sameKind, Client, nobody, joining, retuned, changed, loaded, queued, spent, refilled}
@@ -19,7 +18,7 @@ use Rattle.definitions.specs.Tick.{Rule, rule1, rule2, rule3, ruleOf, Tu
 use Rattle.definitions.specs.Core.{step}
 use Rattle.definitions.specs.History.{start, _then_, scheduler, after}
 use Rattle.definitions.specs.Evenness.{steppedBy}
-use Rattle.definitions.specs.Fits.{CallFits, HandlesFit, StateFits, CoreFits, Fits, FitsMet, FitsNeeded}
+use Rattle.definitions.specs.Fits.{EventFits, HandlesFit, StateFits, CoreFits, Fits, FitsMet, FitsNeeded}
 use Rattle.definitions.proofs.Everything.{everything}
 use Rattle.definitions.proofs.Laws.Tests.{cond-both}
 use Rattle.definitions.proofs.Laws.Checked.{Passed, checked-cases}
@@ -87,10 +86,10 @@ module _ (s : State) (known : StateFits s) where
   unfolding onTick turn
   tick-fits = slotted-fits (turn s) (turnBy-seeded (ruleOf (s .clients)) s (known .generatorLow, known .generatorHigh))
 
-  changed-fits : (id type rate burst : ℕ) → HandlesFit (changed (s .clients id) type rate burst .queue)
+  changed-fits : (id kind rate burst : ℕ) → HandlesFit (changed (s .clients id) kind rate burst .queue)
   unfolding changed retuned joining
-  changed-fits id type rate burst =
-      cond-both (λ (c : Client). HandlesFit (c .queue)) (sameKind (s .clients id .kind) (kindOf type)) (known .handlesHigh id) tt
+  changed-fits id kind rate burst =
+      cond-both (λ (c : Client). HandlesFit (c .queue)) (sameKind (s .clients id .kind) (kindOf kind)) (known .handlesHigh id) tt
 
 -- check 3 fails at 0
 seed-low : (threshold discipline seed : ℕ) → Passed (openChecks threshold discipline seed) → 1 ≤ seed
@@ -99,7 +98,7 @@ seed-low threshold discipline zero passed = absurd (false≢true (passed .1 .1 .
 seed-low threshold discipline (suc n) passed = omega arith
 
 fresh-fits : (threshold discipline seed : ℕ)
-    → CallFits (Open threshold discipline seed)
+    → EventFits (Open threshold discipline seed)
     → Passed (openChecks threshold discipline seed)
     → StateFits (fresh threshold discipline seed)
 unfolding fresh
@@ -109,24 +108,24 @@ fresh-fits threshold discipline seed fits passed = record {
   handlesHigh = λ id. tt;
 }
 
-pub step-fits : (core : Core) → CoreFits core → (c : Call) → CallFits c → CoreFits (step core c .core)
+pub step-fits : (core : Core) → CoreFits core → (c : Event) → EventFits c → CoreFits (step core c .core)
 unfolding step onOpen onJoin onChange onLeave onLoad onArrive joining loaded queued
 step-fits core known (Open threshold discipline seed) fits =
     checked-cases (λ r. CoreFits (r .core)) (openChecks threshold discipline seed) core
     (accepted (fresh threshold discipline seed))
     (λ number. known)
     (fresh-fits threshold discipline seed fits)
-step-fits unopened known (Join id type rate burst) fits = tt
-step-fits unopened known (Change id type rate burst) fits = tt
+step-fits unopened known (Join id kind rate burst) fits = tt
+step-fits unopened known (Change id kind rate burst) fits = tt
 step-fits unopened known (Leave id) fits = tt
 step-fits unopened known (Load id dummies) fits = tt
 step-fits unopened known (Arrive id packet) fits = tt
 step-fits unopened known Tick fits = tt
-step-fits (running s) known (Join id type rate burst) fits =
-    call-fits s known (joinChecks s id type rate burst) id (joining type rate burst) (s .order) tt
-step-fits (running s) known (Change id type rate burst) fits =
-    call-fits s known (changeChecks s id type rate burst) id (changed (s .clients id) type rate burst) (orderAfterChange s id type)
-    (changed-fits s known id type rate burst)
+step-fits (running s) known (Join id kind rate burst) fits =
+    call-fits s known (joinChecks s id kind rate burst) id (joining kind rate burst) (s .order) tt
+step-fits (running s) known (Change id kind rate burst) fits =
+    call-fits s known (changeChecks s id kind rate burst) id (changed (s .clients id) kind rate burst) (orderAfterChange s id kind)
+    (changed-fits s known id kind rate burst)
 step-fits (running s) known (Leave id) fits = call-fits s known (leaveChecks s id) id nobody (without id (s .order)) tt
 step-fits (running s) known (Load id dummies) fits =
     call-fits s known (loadChecks s id dummies) id (loaded (s .clients id) dummies) (s .order) (known .handlesHigh id)

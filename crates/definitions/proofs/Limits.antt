@@ -5,8 +5,7 @@ pub mod Client
 pub mod Calls
 pub mod Slots
 pub mod Turns
-use Rattle.definitions.specs.declared.Call.{Call}
-use Rattle.definitions.specs.declared.Call.the-variants.{Open, Join, Change, Leave, Load, Arrive, Tick}
+use Rattle.definitions.specs.Event.{Event, Open, Join, Change, Leave, Load, Arrive, Tick}
 use Rattle.definitions.specs.State.{Core, unopened, running}
 use Rattle.definitions.specs.Core.{step}
 use Rattle.definitions.specs.History.{start, _then_, scheduler, after}
@@ -14,17 +13,17 @@ use Rattle.definitions.specs.Limits.{CoreLimits, Limits}
 use Rattle.definitions.proofs.Limits.Calls.{open-limits, join-limits, change-limits, leave-limits, load-limits, arrive-limits}
 use Rattle.definitions.proofs.Limits.Slots.{tick-limits}
 
-pub step-limits : (core : Core) → CoreLimits core → (c : Call) → CoreLimits (step core c .core)
+pub step-limits : (core : Core) → CoreLimits core → (c : Event) → CoreLimits (step core c .core)
 unfolding step
 step-limits core known (Open threshold discipline seed) = open-limits core known threshold discipline seed
-step-limits unopened known (Join id type rate burst) = tt
-step-limits unopened known (Change id type rate burst) = tt
+step-limits unopened known (Join id kind rate burst) = tt
+step-limits unopened known (Change id kind rate burst) = tt
 step-limits unopened known (Leave id) = tt
 step-limits unopened known (Load id dummies) = tt
 step-limits unopened known (Arrive id packet) = tt
 step-limits unopened known Tick = tt
-step-limits (running s) known (Join id type rate burst) = join-limits s known id type rate burst
-step-limits (running s) known (Change id type rate burst) = change-limits s known id type rate burst
+step-limits (running s) known (Join id kind rate burst) = join-limits s known id kind rate burst
+step-limits (running s) known (Change id kind rate burst) = change-limits s known id kind rate burst
 step-limits (running s) known (Leave id) = leave-limits s known id
 step-limits (running s) known (Load id dummies) = load-limits s known id dummies
 step-limits (running s) known (Arrive id packet) = arrive-limits s known id packet

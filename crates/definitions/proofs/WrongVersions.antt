@@ -6,10 +6,9 @@ use mathlib.Core.Path.{_≡_, refl, sym, ap, _∙_}
 use mathlib.Core.Logic.{_≢_}
 use mathlib.Core.List.{List, [], _∷_}
 use lib.ListN.{getD}
-use Rattle.definitions.specs.declared.Call.{Call}
-use Rattle.definitions.specs.declared.Call.the-variants.{Open, Join, Tick}
+use Rattle.definitions.specs.Event.{Event, Open, Join, Tick}
 use Rattle.definitions.specs.declared.Answer.{Answer}
-use Rattle.definitions.specs.Sizes.{indifferentType, privateType}
+use Rattle.definitions.specs.Sizes.{indifferentKind, privateKind}
 use Rattle.definitions.specs.State.{Core}
 use Rattle.definitions.specs.Answers.{real, dummy, idle, none, shown, isAccepted}
 use Rattle.definitions.specs.Cases.{arrival, arrivals}
@@ -21,11 +20,11 @@ use Rattle.definitions.proofs.Laws.Tests.{true-false}
 use Rattle.definitions.proofs.Everything.{everything}
 
 -- a history of an open, with first come first served and seed 1, and some calls
-followed : History → List Call → History
+followed : History → List Event → History
 followed h [] = h
 followed h (c ∷ cs) = followed (h then c) cs
 
-opening : List Call → History
+opening : List Event → History
 opening cs = followed (start then Open 1024 0 1) cs
 
 -- what the claims below compute with
@@ -34,7 +33,7 @@ unfolding everything after answerAt isTick followed opening withTick slotBy with
 computed = Unit {0}
 
 -- two answers that show different numbers at some place
-module _ (S : Scheduler) (h : History) (c : Call) (place : ℕ) where
+module _ (S : Scheduler) (h : History) (c : Event) (place : ℕ) where
   shownAt : Answer → ℕ
   shownAt a = getD (shown a) place 0
 
@@ -43,51 +42,51 @@ module _ (S : Scheduler) (h : History) (c : Call) (place : ℕ) where
       → shownAt (answerAt scheduler h c) ≡ right
       → wrong ≢ right
       → Differs S
-  told-apart wrong right e f other = record { history = h; call = c; differs = λ same. other (sym e ∙ ap shownAt same ∙ f) }
+  told-apart wrong right e f other = record { history = h; event = c; differs = λ same. other (sym e ∙ ap shownAt same ∙ f) }
 
 -- a packet of 2 waits, and the slot is a dummy
 alwaysDummy-differs : Differs alwaysDummy
 unfolding computed unsent shownAt
 alwaysDummy-differs =
-    told-apart alwaysDummy (opening (Join 2 privateType 300 0 ∷ arrival 2 17 64 ∷ [])) Tick 0 dummy real refl refl (λ e. omega arith)
+    told-apart alwaysDummy (opening (Join 2 privateKind 300 0 ∷ arrival 2 17 64 ∷ [])) Tick 0 dummy real refl refl (λ e. omega arith)
 
 -- two packets of 2 wait, and the second tick idles
 laterIdle-differs : Differs laterIdle
 unfolding computed unsent idleOnceTicked shownAt
 laterIdle-differs =
-    told-apart laterIdle (opening (Join 2 privateType 300 0 ∷ arrival 2 17 64 ∷ arrival 2 18 64 ∷ Tick ∷ [])) Tick 0 idle real refl refl
+    told-apart laterIdle (opening (Join 2 privateKind 300 0 ∷ arrival 2 17 64 ∷ arrival 2 18 64 ∷ Tick ∷ [])) Tick 0 idle real refl refl
     (λ e. omega arith)
 
 -- 31 packets wait, and there is a place for one more
 fullEarly-differs : Differs fullEarly
 unfolding computed twoRoomsLeft shownAt
 fullEarly-differs =
-    told-apart fullEarly (opening (Join 3 privateType 100 0 ∷ arrivals 31)) (arrival 3 1 64) 0 14 0 refl refl (λ e. omega arith)
+    told-apart fullEarly (opening (Join 3 privateKind 100 0 ∷ arrivals 31)) (arrival 3 1 64) 0 14 0 refl refl (λ e. omega arith)
 
 -- a bucket of burst 1 is full, and has one token
 drainedEarly-differs : Differs drainedEarly
 unfolding computed moreThanToken shownAt
 drainedEarly-differs =
-    told-apart drainedEarly (opening (Join 3 indifferentType 100 1 ∷ [])) (arrival 3 1 64) 0 15 0 refl refl (λ e. omega arith)
+    told-apart drainedEarly (opening (Join 3 indifferentKind 100 1 ∷ [])) (arrival 3 1 64) 0 15 0 refl refl (λ e. omega arith)
 
 -- the target is 369 of 400, which is 5's
 lowestId-differs : Differs lowestId
 unfolding computed lowestTurn shownAt
 lowestId-differs =
-    told-apart lowestId (opening (Join 2 privateType 300 0 ∷ Join 5 privateType 100 0 ∷ [])) Tick 1 2 5 refl refl (λ e. omega arith)
+    told-apart lowestId (opening (Join 2 privateKind 300 0 ∷ Join 5 privateKind 100 0 ∷ [])) Tick 1 2 5 refl refl (λ e. omega arith)
 
 -- 2's packet is gone when its slot comes
 notKept-differs : Differs notKept
 unfolding computed forgotten shownAt
 notKept-differs =
-    told-apart notKept (opening (Join 2 privateType 300 0 ∷ arrival 2 17 64 ∷ [])) Tick 0 idle real refl refl (λ e. omega arith)
+    told-apart notKept (opening (Join 2 privateKind 300 0 ∷ arrival 2 17 64 ∷ [])) Tick 0 idle real refl refl (λ e. omega arith)
 
 -- the first open is accepted
-refusesAll-differs : (number : Core → Call → ℕ) → Differs (refusesAll number)
+refusesAll-differs : (number : Core → Event → ℕ) → Differs (refusesAll number)
 unfolding computed
 refusesAll-differs number = record {
   history = start;
-  call = Open 1024 0 1;
+  event = Open 1024 0 1;
   differs = λ same. true-false refl (ap isAccepted (sym same));
 }
 
@@ -95,7 +94,7 @@ refusesAll-differs number = record {
 alwaysNone-differs : Differs alwaysNone
 unfolding computed unsent shownAt
 alwaysNone-differs =
-    told-apart alwaysNone (opening (Join 2 privateType 300 0 ∷ [])) Tick 0 none idle refl refl (λ e. omega arith)
+    told-apart alwaysNone (opening (Join 2 privateKind 300 0 ∷ [])) Tick 0 none idle refl refl (λ e. omega arith)
 
 pub all-differ : AllDiffer
 all-differ = record {

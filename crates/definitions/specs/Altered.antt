@@ -6,8 +6,7 @@ use mathlib.Core.List.{[], _∷_}
 use lib.Dec.{leb, ltb}
 use lib.ListN.{length}
 use Rattle.definitions.specs.declared.Packet.{Packet}
-use Rattle.definitions.specs.declared.Call.{Call}
-use Rattle.definitions.specs.declared.Call.the-variants.{Open, Join, Change, Leave, Load, Arrive, Tick}
+use Rattle.definitions.specs.Event.{Event, Open, Join, Change, Leave, Load, Arrive, Tick}
 use Rattle.definitions.specs.declared.Answer.the-variants.{Slot}
 use Rattle.definitions.specs.Sizes.{places, shares, shortest, longest}
 use Rattle.definitions.specs.State.{State, Core, running}
@@ -20,7 +19,7 @@ use Rattle.definitions.specs.History.{Scheduler, pickIn, schedulerBy}
 use Rattle.definitions.specs.Sameness.{isTick}
 
 -- another tick
-unfoldable pub withTick : (State → Result) → Core → Call → Result
+unfoldable pub withTick : (State → Result) → Core → Event → Result
 withTick tick core c = cond (isTick c) (whenOpened core tick) (step core c)
 
 -- a slot that is another turn's
@@ -34,11 +33,11 @@ abbrev pub byTurn : (State → Turn) → Scheduler
 byTurn turnOf = schedulerBy (withTick (slotBy turnOf)) (pickIn turnOf)
 
 -- another arrive
-unfoldable pub withArrive : (State → ℕ → Packet → Result) → Core → Call → Result
+unfoldable pub withArrive : (State → ℕ → Packet → Result) → Core → Event → Result
 withArrive arrive core (Arrive id p) = whenOpened core (λ s. arrive s id p)
 withArrive arrive core (Open threshold discipline seed) = step core (Open threshold discipline seed)
-withArrive arrive core (Join id type rate burst) = step core (Join id type rate burst)
-withArrive arrive core (Change id type rate burst) = step core (Change id type rate burst)
+withArrive arrive core (Join id kind rate burst) = step core (Join id kind rate burst)
+withArrive arrive core (Change id kind rate burst) = step core (Change id kind rate burst)
 withArrive arrive core (Leave id) = step core (Leave id)
 withArrive arrive core (Load id dummies) = step core (Load id dummies)
 withArrive arrive core Tick = step core Tick
@@ -59,10 +58,10 @@ arriveIf room token s id p =
     (accepted (updated s id (queued (s .clients id) p) (orderAfterArrival s id)))
 
 -- another change
-unfoldable pub withChange : (State → ℕ → ℕ → ℕ → ℕ → Result) → Core → Call → Result
-withChange change core (Change id type rate burst) = whenOpened core (λ s. change s id type rate burst)
+unfoldable pub withChange : (State → ℕ → ℕ → ℕ → ℕ → Result) → Core → Event → Result
+withChange change core (Change id kind rate burst) = whenOpened core (λ s. change s id kind rate burst)
 withChange change core (Open threshold discipline seed) = step core (Open threshold discipline seed)
-withChange change core (Join id type rate burst) = step core (Join id type rate burst)
+withChange change core (Join id kind rate burst) = step core (Join id kind rate burst)
 withChange change core (Leave id) = step core (Leave id)
 withChange change core (Load id dummies) = step core (Load id dummies)
 withChange change core (Arrive id p) = step core (Arrive id p)

@@ -25,18 +25,18 @@ updated s id c order = record {
 
 module _ (s : State) (id : ℕ) where
   unfoldable pub onJoin : ℕ → ℕ → ℕ → Result
-  onJoin type rate burst =
-      checked (joinChecks s id type rate burst) (running s)
-      (accepted (updated s id (joining type rate burst) (s .order)))
+  onJoin kind rate burst =
+      checked (joinChecks s id kind rate burst) (running s)
+      (accepted (updated s id (joining kind rate burst) (s .order)))
 
   -- a change of type takes the id's packets out of the order
   unfoldable pub orderAfterChange : ℕ → List ℕ
-  orderAfterChange type = cond (sameKind (s .clients id .kind) (kindOf type)) (s .order) (without id (s .order))
+  orderAfterChange kind = cond (sameKind (s .clients id .kind) (kindOf kind)) (s .order) (without id (s .order))
 
   unfoldable pub onChange : ℕ → ℕ → ℕ → Result
-  onChange type rate burst =
-      checked (changeChecks s id type rate burst) (running s)
-      (accepted (updated s id (changed (s .clients id) type rate burst) (orderAfterChange type)))
+  onChange kind rate burst =
+      checked (changeChecks s id kind rate burst) (running s)
+      (accepted (updated s id (changed (s .clients id) kind rate burst) (orderAfterChange kind)))
 
   -- "Leave empties everything of the id."
   unfoldable pub onLeave : Result

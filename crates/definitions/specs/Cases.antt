@@ -5,9 +5,8 @@ use Prim.Native.Nat.{ℕ, zero, suc}
 use mathlib.Core.Path.{_≡_}
 use mathlib.Core.List.{List, [], _∷_, _++_, List·Memᴰ}
 use lib.ListN.{length, replicate, take}
-use Rattle.definitions.specs.declared.Call.{Call}
-use Rattle.definitions.specs.declared.Call.the-variants.{Open, Join, Change, Load, Arrive, Tick}
-use Rattle.definitions.specs.Sizes.{ids, indifferentType, privateType, firstCome}
+use Rattle.definitions.specs.Event.{Event, Open, Join, Change, Load, Arrive, Tick}
+use Rattle.definitions.specs.Sizes.{ids, indifferentKind, privateKind, firstCome}
 use Rattle.definitions.specs.Generator.{stepped}
 use Rattle.definitions.specs.Sample.{sample}
 use Rattle.definitions.specs.Draw.{sumBelow, drawnAt, draw}
@@ -30,12 +29,12 @@ abbrev pub Holds : List Case → Type 0
 Holds table = (c : Case) → List·Memᴰ c table → c .given ≡ c .wanted
 
 -- the core after some calls
-unfoldable pub ran : Core → List Call → Core
+unfoldable pub ran : Core → List Event → Core
 ran core [] = core
 ran core (c ∷ cs) = ran (step core c .core) cs
 
 -- what some calls get, one after the other
-unfoldable pub said : Core → List Call → List ℕ
+unfoldable pub said : Core → List Event → List ℕ
 said core [] = []
 said core (c ∷ cs) = shown (step core c .answer) ++ said (step core c .core) cs
 
@@ -56,14 +55,14 @@ abbrev pub level : Core → ℕ → ℕ
 level core id = clientOf core id .level
 
 -- the core after an open, with first come first served and seed 1, and some calls
-unfoldable pub opened : ℕ → List Call → Core
+unfoldable pub opened : ℕ → List Event → Core
 opened threshold cs = ran unopened (Open threshold firstCome 1 ∷ cs)
 
-abbrev pub arrival : ℕ → ℕ → ℕ → Call
+abbrev pub arrival : ℕ → ℕ → ℕ → Event
 arrival id handle length = Arrive id (record { handle = handle; length = length })
 
 -- n packets of id 3
-abbrev pub arrivals : ℕ → List Call
+abbrev pub arrivals : ℕ → List Event
 arrivals n = replicate n (arrival 3 1 64)
 
 unfoldable pub cases : List Case
@@ -71,50 +70,50 @@ cases =
     -- P1 "seed 1 gives 270369, 67634689, 2647435461"
     (stream 3 1 gives 270369 ∷ 67634689 ∷ 2647435461 ∷ [])
     -- P2 "private 2 (rate 300) and 5 (rate 100): target 299 draws 2, 300 draws 5"
-    ∷ (let weight = privateRate (clientOf (opened 1024 (Join 2 privateType 300 0 ∷ Join 5 privateType 100 0 ∷ []))) in
+    ∷ (let weight = privateRate (clientOf (opened 1024 (Join 2 privateKind 300 0 ∷ Join 5 privateKind 100 0 ∷ []))) in
     drawnAt weight 299 ∷ drawnAt weight 300 ∷ []
     gives 2 ∷ 5 ∷ [])
     -- P3 "length 63 and 1519: 13; 64 and 1518 accepted"
-    ∷ (let begun = opened 1024 (Join 3 privateType 100 0 ∷ []) in
+    ∷ (let begun = opened 1024 (Join 3 privateKind 100 0 ∷ []) in
     said begun (arrival 3 1 63 ∷ arrival 3 2 1519 ∷ arrival 3 3 64 ∷ arrival 3 4 1518 ∷ [])
     gives 13 ∷ 13 ∷ 0 ∷ 0 ∷ [])
     -- P4 "the 32nd waiting packet is accepted; the 33rd gets 14 and takes no token"
-    ∷ (let begun = opened 1024 (Join 3 indifferentType 100 64 ∷ []) in
+    ∷ (let begun = opened 1024 (Join 3 indifferentKind 100 64 ∷ []) in
     said begun (arrivals 33) ++ level (ran begun (arrivals 32)) 3 ∷ level (ran begun (arrivals 33)) 3 ∷ []
     gives replicate 32 0 ++ 14 ∷ 32768 ∷ 32768 ∷ [])
     -- P5 "level 1023: 15; level 1024: accepted, 0 left"; the first packet empties the bucket, and a tick adds up to 1023
-    ∷ (let once = opened 1024 (Join 3 indifferentType 1023 1 ∷ arrivals 1 ++ Tick ∷ []) in
+    ∷ (let once = opened 1024 (Join 3 indifferentKind 1023 1 ∷ arrivals 1 ++ Tick ∷ []) in
     let twice = ran once (Tick ∷ []) in
     level once 3 ∷ said once (arrivals 1) ++ level twice 3 ∷ said twice (arrivals 1) ++ level (ran twice (arrivals 1)) 3 ∷ []
     gives 1023 ∷ 15 ∷ 1024 ∷ 0 ∷ 0 ∷ [])
     -- P6 "threshold 1000 with 800 held: rate 200 joins, 201 gets 10"
-    ∷ (let held = opened 1000 (Join 1 privateType 800 0 ∷ []) in
-    said held (Join 2 privateType 200 0 ∷ []) ++ said held (Join 2 privateType 201 0 ∷ [])
+    ∷ (let held = opened 1000 (Join 1 privateKind 800 0 ∷ []) in
+    said held (Join 2 privateKind 200 0 ∷ []) ++ said held (Join 2 privateKind 201 0 ∷ [])
     gives 0 ∷ 10 ∷ [])
     -- P7 "a sole client of 800 there changes to 1000"
-    ∷ (let held = opened 1000 (Join 1 privateType 800 0 ∷ []) in
-    said held (Change 1 privateType 1000 0 ∷ []) ++ clientOf (ran held (Change 1 privateType 1000 0 ∷ [])) 1 .rate ∷ []
+    ∷ (let held = opened 1000 (Join 1 privateKind 800 0 ∷ []) in
+    said held (Change 1 privateKind 1000 0 ∷ []) ++ clientOf (ran held (Change 1 privateKind 1000 0 ∷ [])) 1 .rate ∷ []
     gives 0 ∷ 1000 ∷ [])
     -- P8 "pool 255: load 0 accepted, load 1 gets 12"
-    ∷ (let full = opened 1024 (Join 2 privateType 100 0 ∷ Load 2 255 ∷ []) in
+    ∷ (let full = opened 1024 (Join 2 privateKind 100 0 ∷ Load 2 255 ∷ []) in
     clientOf full 2 .pool ∷ said full (Load 2 0 ∷ []) ++ said full (Load 2 1 ∷ [])
     gives 255 ∷ 0 ∷ 12 ∷ [])
     -- P9 "tick with indifferent clients only, none waiting: none, generator as before"
-    ∷ (let quiet = opened 1024 (Join 3 indifferentType 100 1 ∷ Join 7 indifferentType 100 1 ∷ []) in
+    ∷ (let quiet = opened 1024 (Join 3 indifferentKind 100 1 ∷ Join 7 indifferentKind 100 1 ∷ []) in
     said quiet (Tick ∷ []) ++ generatorOf quiet ∷ generatorOf (ran quiet (Tick ∷ [])) ∷ []
     gives none ∷ 1 ∷ 1 ∷ [])
     -- P10 "a type change with 3 waiting: none waits after it", from either type
-    ∷ (let before = opened 1024 (Join 3 privateType 100 0 ∷ arrivals 3) in
-    let after = ran before (Change 3 indifferentType 100 3 ∷ arrivals 3) in
-    waiting before 3 ∷ waiting (ran before (Change 3 indifferentType 100 3 ∷ [])) 3 ∷ []
-    ++ waiting after 3 ∷ waiting (ran after (Change 3 privateType 100 0 ∷ [])) 3 ∷ []
+    ∷ (let before = opened 1024 (Join 3 privateKind 100 0 ∷ arrivals 3) in
+    let after = ran before (Change 3 indifferentKind 100 3 ∷ arrivals 3) in
+    waiting before 3 ∷ waiting (ran before (Change 3 indifferentKind 100 3 ∷ [])) 3 ∷ []
+    ++ waiting after 3 ∷ waiting (ran after (Change 3 privateKind 100 0 ∷ [])) 3 ∷ []
     gives 3 ∷ 0 ∷ 3 ∷ 0 ∷ [])
     -- P11 "discipline 0, accepted 3, 7, 3: they leave 3, 7, 3"
-    ∷ (let both = Join 3 indifferentType 100 2 ∷ Join 7 indifferentType 100 2 ∷ [] in
+    ∷ (let both = Join 3 indifferentKind 100 2 ∷ Join 7 indifferentKind 100 2 ∷ [] in
     said (opened 1024 (both ++ arrival 3 31 64 ∷ arrival 7 70 65 ∷ arrival 3 32 66 ∷ [])) (Tick ∷ Tick ∷ Tick ∷ [])
     gives real ∷ 3 ∷ 31 ∷ 64 ∷ 0 ∷ real ∷ 7 ∷ 70 ∷ 65 ∷ 0 ∷ real ∷ 3 ∷ 32 ∷ 66 ∷ 0 ∷ [])
     -- P12 "join of an active id with type 9: 6"
-    ∷ (said (opened 1024 (Join 3 privateType 100 0 ∷ [])) (Join 3 9 100 0 ∷ [])
+    ∷ (said (opened 1024 (Join 3 privateKind 100 0 ∷ [])) (Join 3 9 100 0 ∷ [])
     gives 6 ∷ [])
     ∷ []
 
@@ -139,12 +138,12 @@ samples =
     ∷ []
 
 -- the script of the paper, line by line
-abbrev pub script : List Call
+abbrev pub script : List Event
 script =
     Open 1024 0 1
-    ∷ Join 2 privateType 300 0
-    ∷ Join 5 privateType 100 0
-    ∷ Join 3 indifferentType 200 1
+    ∷ Join 2 privateKind 300 0
+    ∷ Join 5 privateKind 100 0
+    ∷ Join 3 indifferentKind 200 1
     ∷ Load 2 1
     ∷ arrival 2 17 64
     ∷ arrival 3 90 1518

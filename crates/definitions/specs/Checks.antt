@@ -9,7 +9,7 @@ use lib.ListN.{length}
 use Rattle.definitions.specs.declared.Packet.{Packet}
 use Rattle.definitions.specs.declared.Answer.{Answer}
 use Rattle.definitions.specs.declared.Answer.the-variants.{Accepted, Refused}
-use Rattle.definitions.specs.Sizes.{ids, places, poolLimit, shares, burstLimit, shortest, longest, indifferentType, weightedDraw}
+use Rattle.definitions.specs.Sizes.{ids, places, poolLimit, shares, burstLimit, shortest, longest, indifferentKind, weightedDraw}
 use Rattle.definitions.specs.Draw.{sumBelow}
 use Rattle.definitions.specs.Client.{Client, kindOf, isActive, isIndifferent}
 use Rattle.definitions.specs.State.{State, Core, running}
@@ -50,7 +50,7 @@ rates clients = sumBelow ids (activeRate clients)
 
 -- "burst outside 1..64 if indifferent, not 0 if private"
 unfoldable pub burstFits : ℕ → ℕ → Bool
-burstFits type burst = cond (eqb type indifferentType) (within 1 burstLimit burst) (eqb burst 0)
+burstFits kind burst = cond (eqb kind indifferentKind) (within 1 burstLimit burst) (eqb burst 0)
 
 unfoldable pub openChecks : ℕ → ℕ → ℕ → List Check
 openChecks threshold discipline seed =
@@ -61,19 +61,19 @@ openChecks threshold discipline seed =
 
 -- what join and change ask of the terms, with the rates that the others hold
 unfoldable pub termChecks : ℕ → ℕ → ℕ → ℕ → ℕ → List Check
-termChecks threshold others type rate burst =
-    check 7 (isActive (kindOf type))
+termChecks threshold others kind rate burst =
+    check 7 (isActive (kindOf kind))
     ∷ check 8 (within 1 shares rate)
-    ∷ check 9 (burstFits type burst)
+    ∷ check 9 (burstFits kind burst)
     ∷ check 10 (leb (others + rate) threshold)
     ∷ []
 
 module _ (s : State) (id : ℕ) where
   unfoldable pub joinChecks : ℕ → ℕ → ℕ → List Check
-  joinChecks type rate burst =
+  joinChecks kind rate burst =
       check 4 (ltb id ids)
       ∷ check 6 (not (isActive (s .clients id .kind)))
-      ∷ termChecks (s .threshold) (rates (s .clients)) type rate burst
+      ∷ termChecks (s .threshold) (rates (s .clients)) kind rate burst
 
   -- what every call for an active client asks first
   unfoldable pub activeChecks : List Check → List Check
@@ -81,7 +81,7 @@ module _ (s : State) (id : ℕ) where
 
   -- "The old rate is taken off before the threshold is checked."
   unfoldable pub changeChecks : ℕ → ℕ → ℕ → List Check
-  changeChecks type rate burst = activeChecks (termChecks (s .threshold) (rates (s .clients) - s .clients id .rate) type rate burst)
+  changeChecks kind rate burst = activeChecks (termChecks (s .threshold) (rates (s .clients) - s .clients id .rate) kind rate burst)
 
   unfoldable pub leaveChecks : List Check
   leaveChecks = activeChecks []

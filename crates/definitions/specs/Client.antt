@@ -5,14 +5,14 @@ use mathlib.Core.Bool.{Bool, true, false, cond, not}
 use mathlib.Core.List.{List, [], _∷_, _++_, tail}
 use lib.Dec.{eqb}
 use Rattle.definitions.specs.declared.Packet.{Packet}
-use Rattle.definitions.specs.Sizes.{shares, indifferentType, privateType}
+use Rattle.definitions.specs.Sizes.{shares, indifferentKind, privateKind}
 
 -- "An active client is indifferent (type 1) or private (type 2)."
 pub data Kind : Type 0 where
   absent indifferent private : Kind
 
 unfoldable pub kindOf : ℕ → Kind
-kindOf type = cond (eqb type indifferentType) indifferent (cond (eqb type privateType) private absent)
+kindOf kind = cond (eqb kind indifferentKind) indifferent (cond (eqb kind privateKind) private absent)
 
 abbrev pub isActive : Kind → Bool
 isActive absent = false
@@ -52,7 +52,7 @@ nobody = record { kind = absent; rate = 0; burst = 0; level = 0; pool = 0; queue
 
 -- "A join starts with an empty queue, a pool of 0 and, if indifferent, a full bucket." Of burst 0, full is 0.
 unfoldable pub joining : ℕ → ℕ → ℕ → Client
-joining type rate burst = record { kind = kindOf type; rate = rate; burst = burst; level = burst * shares; pool = 0; queue = [] }
+joining kind rate burst = record { kind = kindOf kind; rate = rate; burst = burst; level = burst * shares; pool = 0; queue = [] }
 
 -- "If the type stays, queue and pool stay, and a level above the new burst × 1024 comes down to it."
 unfoldable pub retuned : Client → ℕ → ℕ → Client
@@ -67,7 +67,7 @@ retuned c rate burst = record {
 
 -- "If the type differs, queue and pool become empty, and a new indifferent client's bucket is full."
 unfoldable pub changed : Client → ℕ → ℕ → ℕ → Client
-changed c type rate burst = cond (sameKind (c .kind) (kindOf type)) (retuned c rate burst) (joining type rate burst)
+changed c kind rate burst = cond (sameKind (c .kind) (kindOf kind)) (retuned c rate burst) (joining kind rate burst)
 
 -- "Load adds dummies to a private pool."
 unfoldable pub loaded : Client → ℕ → Client

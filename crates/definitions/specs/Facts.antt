@@ -9,8 +9,7 @@ use mathlib.Core.List.{List, [], _∷_}
 use lib.Dec.{T, ltb}
 use lib.ListN.{length}
 use Rattle.definitions.specs.declared.Packet.{Packet}
-use Rattle.definitions.specs.declared.Call.{Call}
-use Rattle.definitions.specs.declared.Call.the-variants.{Open}
+use Rattle.definitions.specs.Event.{Event, Open}
 use Rattle.definitions.specs.declared.Outcome.the-variants.{Real}
 use Rattle.definitions.specs.declared.Answer.the-variants.{Accepted, Refused, Slot}
 use Rattle.definitions.specs.Sizes.{ids, places, poolLimit, shares, shortest, longest, firstCome}
@@ -75,37 +74,37 @@ pub record Has (c : Client) (queue : List Packet) (pool level : ℕ) : Type 0 wh
   pub level-is : c .level ≡ level
 
 -- that a change passes the checks before the threshold's: 4, 5, 7, 8 and 9
-pub record PassesTo10 (s : State) (id type rate burst : ℕ) : Type 0 where
+pub record PassesTo10 (s : State) (id kind rate burst : ℕ) : Type 0 where
   pub named : ltb id ids ≡ true
   pub active : isActive (s .clients id .kind) ≡ true
-  pub typed : isActive (kindOf type) ≡ true
+  pub typed : isActive (kindOf kind) ≡ true
   pub rated : within 1 shares rate ≡ true
-  pub fits : burstFits type burst ≡ true
+  pub fits : burstFits kind burst ≡ true
 
 -- a change: what it leaves of a client, and what it is checked against
 pub record ChangeFacts : Type 0 where
   -- "If the type stays, queue and pool stay, and a level above the new burst × 1024 comes down to it."
-  pub change-keeps : (s : State) (id type rate burst : ℕ)
-      → onChange s id type rate burst .answer ≡ Accepted
-      → s .clients id .kind ≡ kindOf type
-      → Has (clientOf (onChange s id type rate burst .core) id) (s .clients id .queue) (s .clients id .pool)
+  pub change-keeps : (s : State) (id kind rate burst : ℕ)
+      → onChange s id kind rate burst .answer ≡ Accepted
+      → s .clients id .kind ≡ kindOf kind
+      → Has (clientOf (onChange s id kind rate burst .core) id) (s .clients id .queue) (s .clients id .pool)
       (min (s .clients id .level) (burst * shares))
   -- "If the type differs, queue and pool become empty, and a new indifferent client's bucket is full."
-  pub change-empties : (s : State) (id type rate burst : ℕ)
-      → onChange s id type rate burst .answer ≡ Accepted
-      → s .clients id .kind ≢ kindOf type
-      → Has (clientOf (onChange s id type rate burst .core) id) [] 0 (burst * shares)
+  pub change-empties : (s : State) (id kind rate burst : ℕ)
+      → onChange s id kind rate burst .answer ≡ Accepted
+      → s .clients id .kind ≢ kindOf kind
+      → Has (clientOf (onChange s id kind rate burst .core) id) [] 0 (burst * shares)
   -- "the old rate is taken off before the threshold is checked": it is accepted if the rates without the old one and with the
   -- new one are within the threshold
-  pub change-within : (s : State) (id type rate burst : ℕ)
-      → PassesTo10 s id type rate burst
+  pub change-within : (s : State) (id kind rate burst : ℕ)
+      → PassesTo10 s id kind rate burst
       → rates (s .clients) - s .clients id .rate + rate ≤ s .threshold
-      → onChange s id type rate burst .answer ≡ Accepted
+      → onChange s id kind rate burst .answer ≡ Accepted
   -- and gets 10 if they pass it
-  pub change-past : (s : State) (id type rate burst : ℕ)
-      → PassesTo10 s id type rate burst
+  pub change-past : (s : State) (id kind rate burst : ℕ)
+      → PassesTo10 s id kind rate burst
       → s .threshold < rates (s .clients) - s .clients id .rate + rate
-      → onChange s id type rate burst .answer ≡ Refused 10
+      → onChange s id kind rate burst .answer ≡ Refused 10
 
 -- the order of the checks, and refusals
 pub record CheckFacts : Type 0 where
@@ -127,9 +126,9 @@ pub record CheckFacts : Type 0 where
       → step core (Open threshold discipline seed) .answer ≢ Accepted
       → step core (Open threshold discipline seed) .core ≡ core
   -- "every call but open | 19 | core unopened", and the core stays so
-  pub unopened-refuses : (c : Call) → isOpen c ≡ false → step unopened c ≡ refused 19 unopened
+  pub unopened-refuses : (c : Event) → isOpen c ≡ false → step unopened c ≡ refused 19 unopened
   -- "the first that fails gives its number, and nothing changes": so of any call on any core
-  pub step-refused : (core : Core) (c : Call) (n : ℕ) → step core c .answer ≡ Refused n → step core c .core ≡ core
+  pub step-refused : (core : Core) (c : Event) (n : ℕ) → step core c .answer ≡ Refused n → step core c .core ≡ core
 
 -- a client of rule 1: indifferent, with a packet first in its queue
 pub record Contender (c : Client) : Type 0 where

@@ -5,26 +5,25 @@ use Prim.Native.Nat.{ℕ, suc, _≤_}
 use mathlib.Core.Path.{_≡_}
 use mathlib.Core.List.{List, [], _∷_}
 use Rattle.definitions.specs.declared.Packet.{Packet}
-use Rattle.definitions.specs.declared.Call.{Call}
-use Rattle.definitions.specs.declared.Call.the-variants.{Open, Join, Change, Leave, Load, Arrive, Tick}
-use Rattle.definitions.specs.Sizes.{numberLimit, handleLimit, shares, longest, privateType, firstCome}
+use Rattle.definitions.specs.Event.{Event, Open, Join, Change, Leave, Load, Arrive, Tick}
+use Rattle.definitions.specs.Sizes.{numberLimit, handleLimit, shares, longest, privateKind, firstCome}
 use Rattle.definitions.specs.State.{State, Core, unopened, running}
 use Rattle.definitions.specs.History.{History, start, _then_, clientOf, generatorOf, scheduler, after}
 
 -- every number of a call is within its limit; a handle has a limit of its own
-abbrev pub CallFits : Call → Type 0
-CallFits (Open threshold discipline seed) = (threshold ≤ numberLimit) × (discipline ≤ numberLimit) × (seed ≤ numberLimit)
-CallFits (Join id type rate burst) = (id ≤ numberLimit) × (type ≤ numberLimit) × (rate ≤ numberLimit) × (burst ≤ numberLimit)
-CallFits (Change id type rate burst) = (id ≤ numberLimit) × (type ≤ numberLimit) × (rate ≤ numberLimit) × (burst ≤ numberLimit)
-CallFits (Leave id) = id ≤ numberLimit
-CallFits (Load id dummies) = (id ≤ numberLimit) × (dummies ≤ numberLimit)
-CallFits (Arrive id packet) = (id ≤ numberLimit) × (packet .handle ≤ handleLimit) × (packet .length ≤ numberLimit)
-CallFits Tick = Unit {0}
+abbrev pub EventFits : Event → Type 0
+EventFits (Open threshold discipline seed) = (threshold ≤ numberLimit) × (discipline ≤ numberLimit) × (seed ≤ numberLimit)
+EventFits (Join id kind rate burst) = (id ≤ numberLimit) × (kind ≤ numberLimit) × (rate ≤ numberLimit) × (burst ≤ numberLimit)
+EventFits (Change id kind rate burst) = (id ≤ numberLimit) × (kind ≤ numberLimit) × (rate ≤ numberLimit) × (burst ≤ numberLimit)
+EventFits (Leave id) = id ≤ numberLimit
+EventFits (Load id dummies) = (id ≤ numberLimit) × (dummies ≤ numberLimit)
+EventFits (Arrive id packet) = (id ≤ numberLimit) × (packet .handle ≤ handleLimit) × (packet .length ≤ numberLimit)
+EventFits Tick = Unit {0}
 
 -- every call of a history is such a call, a refused one too
 abbrev pub HistoryFits : History → Type 0
 HistoryFits start = Unit {0}
-HistoryFits (h then c) = HistoryFits h × CallFits c
+HistoryFits (h then c) = HistoryFits h × EventFits c
 
 -- "A packet is a handle (any 32-bit number) and a length in bytes."
 abbrev pub HandlesFit : List Packet → Type 0
@@ -51,7 +50,7 @@ long handle = record { handle = handle; length = longest }
 
 abbrev pub trial : ℕ → ℕ → History
 trial seed handle =
-    start then Open shares firstCome seed then Join 2 privateType 300 0 then Tick then Arrive 2 (long handle)
+    start then Open shares firstCome seed then Join 2 privateKind 300 0 then Tick then Arrive 2 (long handle)
 
 -- With the highest seed and the highest handle it fits. After it a core runs, whose generator the tick has stepped, and the packet waits.
 pub record FitsMet : Type 0 where

@@ -3,7 +3,7 @@
 use Prim.Native.Nat.{ℕ, suc}
 use mathlib.Core.List.{List}
 use Rattle.definitions.specs.declared.Packet.{Packet}
-use Rattle.definitions.specs.declared.Call.{Call}
+use Rattle.definitions.specs.Event.{Event}
 use Rattle.definitions.specs.declared.Answer.{Answer}
 use Rattle.definitions.specs.Client.{Client, nobody}
 use Rattle.definitions.specs.State.{State, Core, unopened, running}
@@ -14,12 +14,12 @@ use Rattle.definitions.specs.Core.{step}
 infixl 20 _then_
 pub data History : Type 0 where
   start : History
-  _then_ : History → Call → History
+  _then_ : History → Event → History
 
 -- "A place is a call's position in its history, or the history's end": the history up to there.
 pub data Place (h : History) : History → Type 0 where
   end : Place h h
-  before : {whole : History} {c : Call} → Place h whole → Place h (whole then c)
+  before : {whole : History} {c : Event} → Place h whole → Place h (whole then c)
 
 -- how many calls a history has
 unfoldable pub calls : History → ℕ
@@ -34,7 +34,7 @@ pub data Pick : Type 0 where
 
 -- a call that was made, what it got, and whom a slot picks there: whose slot it was, if the call is a tick
 pub record Dealing : Type 0 where
-  pub call : Call
+  pub event : Event
   pub answer : Answer
   pub pick : Pick
 
@@ -53,8 +53,8 @@ pub record Holdings : Type 0 where
 pub record Scheduler : Type 1 where
   pub Inside : Type 0
   pub unopenedCore : Inside
-  pub answer : Inside → Call → Answer
-  pub next : Inside → Call → Inside
+  pub answer : Inside → Event → Answer
+  pub next : Inside → Event → Inside
   pub pick : Inside → Pick
   pub holdings : Inside → Holdings
 
@@ -65,11 +65,11 @@ module _ (S : Scheduler) where
   after (h then c) = S .next (after h) c
 
   -- what a call gets at a place
-  unfoldable pub answerAt : History → Call → Answer
+  unfoldable pub answerAt : History → Event → Answer
   answerAt h c = S .answer (after h) c
 
-  unfoldable pub dealingAt : History → Call → Dealing
-  dealingAt h c = record { call = c; answer = answerAt h c; pick = S .pick (after h) }
+  unfoldable pub dealingAt : History → Event → Dealing
+  dealingAt h c = record { event = c; answer = answerAt h c; pick = S .pick (after h) }
 
   -- a history with what its calls get
   unfoldable pub traceOf : History → Trace
@@ -104,7 +104,7 @@ holdingsOf core = record {
 }
 
 -- a scheduler with a core inside: what it makes of a call, and whom its slots pick
-abbrev pub schedulerBy : (Core → Call → Result) → (Core → Pick) → Scheduler
+abbrev pub schedulerBy : (Core → Event → Result) → (Core → Pick) → Scheduler
 schedulerBy act pick = record {
   Inside = Core;
   unopenedCore = unopened;

@@ -66,24 +66,24 @@ oneStore = schedulerBy (withArrive (arriveIf roomInStore tokenLeft)) pickOf
 
 -- "Keeping the queue over a change of type." The packets of a client that becomes indifferent stand last in the order.
 unfoldable pub queueKept : Client → ℕ → ℕ → ℕ → Client
-queueKept c type rate burst = record {
-  kind = kindOf type;
+queueKept c kind rate burst = record {
+  kind = kindOf kind;
   rate = rate;
   burst = burst;
-  level = changed c type rate burst .level;
-  pool = changed c type rate burst .pool;
+  level = changed c kind rate burst .level;
+  pool = changed c kind rate burst .pool;
   queue = c .queue;
 }
 
 unfoldable pub orderKept : State → ℕ → ℕ → List ℕ
-orderKept s id type =
-    cond (sameKind (s .clients id .kind) (kindOf type)) (s .order)
-    (without id (s .order) ++ cond (isIndifferent (kindOf type)) (replicate (length (s .clients id .queue)) id) [])
+orderKept s id kind =
+    cond (sameKind (s .clients id .kind) (kindOf kind)) (s .order)
+    (without id (s .order) ++ cond (isIndifferent (kindOf kind)) (replicate (length (s .clients id .queue)) id) [])
 
 unfoldable pub changeKeeping : State → ℕ → ℕ → ℕ → ℕ → Result
-changeKeeping s id type rate burst =
-    checked (changeChecks s id type rate burst) (running s)
-    (accepted (updated s id (queueKept (s .clients id) type rate burst) (orderKept s id type)))
+changeKeeping s id kind rate burst =
+    checked (changeChecks s id kind rate burst) (running s)
+    (accepted (updated s id (queueKept (s .clients id) kind rate burst) (orderKept s id kind)))
 
 abbrev pub queueOverChange : Scheduler
 queueOverChange = schedulerBy (withChange changeKeeping) pickOf

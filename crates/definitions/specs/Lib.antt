@@ -13,6 +13,7 @@ pub mod State
 pub mod Answers
 pub mod Checks
 -- the seven calls
+pub mod Event
 pub mod Calls
 pub mod Tick
 pub mod Core

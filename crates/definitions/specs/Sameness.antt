@@ -6,56 +6,55 @@ use mathlib.Core.Path.{_≡_}
 use mathlib.Core.Bool.{Bool, true, false, cond, not, _&&_, _||_}
 use mathlib.Core.List.{List, [], _∷_}
 use lib.Dec.{T, eqb}
-use Rattle.definitions.specs.declared.Call.{Call}
-use Rattle.definitions.specs.declared.Call.the-variants.{Open, Join, Change, Leave, Load, Arrive, Tick}
+use Rattle.definitions.specs.Event.{Event, Open, Join, Change, Leave, Load, Arrive, Tick}
 use Rattle.definitions.specs.declared.Answer.{Answer}
-use Rattle.definitions.specs.Sizes.{indifferentType}
+use Rattle.definitions.specs.Sizes.{indifferentKind}
 use Rattle.definitions.specs.Answers.{number, isAccepted, isDeparture}
 use Rattle.definitions.specs.History.{History, start, _then_, Place, calls, Dealing, Trace, begin, _and_, Holdings, Scheduler, after, answerAt, traceOf}
 
 -- the calls that set a client or the core up: open, join, change and leave
-unfoldable pub isSetting : Call → Bool
+unfoldable pub isSetting : Event → Bool
 isSetting (Open threshold discipline seed) = true
-isSetting (Join id type rate burst) = true
-isSetting (Change id type rate burst) = true
+isSetting (Join id kind rate burst) = true
+isSetting (Change id kind rate burst) = true
 isSetting (Leave id) = true
 isSetting (Load id dummies) = false
 isSetting (Arrive id packet) = false
 isSetting Tick = false
 
-unfoldable pub isTick : Call → Bool
+unfoldable pub isTick : Event → Bool
 isTick (Open threshold discipline seed) = false
-isTick (Join id type rate burst) = false
-isTick (Change id type rate burst) = false
+isTick (Join id kind rate burst) = false
+isTick (Change id kind rate burst) = false
 isTick (Leave id) = false
 isTick (Load id dummies) = false
 isTick (Arrive id packet) = false
 isTick Tick = true
 
-unfoldable pub isArrival : Call → Bool
+unfoldable pub isArrival : Event → Bool
 isArrival (Open threshold discipline seed) = false
-isArrival (Join id type rate burst) = false
-isArrival (Change id type rate burst) = false
+isArrival (Join id kind rate burst) = false
+isArrival (Change id kind rate burst) = false
 isArrival (Leave id) = false
 isArrival (Load id dummies) = false
 isArrival (Arrive id packet) = true
 isArrival Tick = false
 
 -- a client's own calls: those that name it
-unfoldable pub names : ℕ → Call → Bool
+unfoldable pub names : ℕ → Event → Bool
 names id (Open threshold discipline seed) = false
-names id (Join other type rate burst) = eqb other id
-names id (Change other type rate burst) = eqb other id
+names id (Join other kind rate burst) = eqb other id
+names id (Change other kind rate burst) = eqb other id
 names id (Leave other) = eqb other id
 names id (Load other dummies) = eqb other id
 names id (Arrive other packet) = eqb other id
 names id Tick = false
 
 -- whether an id is indifferent after an accepted call, given whether it was before
-unfoldable pub indifferentBy : ℕ → Call → Bool → Bool
+unfoldable pub indifferentBy : ℕ → Event → Bool → Bool
 indifferentBy id (Open threshold discipline seed) was = false
-indifferentBy id (Join other type rate burst) was = cond (eqb other id) (eqb type indifferentType) was
-indifferentBy id (Change other type rate burst) was = cond (eqb other id) (eqb type indifferentType) was
+indifferentBy id (Join other kind rate burst) was = cond (eqb other id) (eqb kind indifferentKind) was
+indifferentBy id (Change other kind rate burst) was = cond (eqb other id) (eqb kind indifferentKind) was
 indifferentBy id (Leave other) was = cond (eqb other id) false was
 indifferentBy id (Load other dummies) was = was
 indifferentBy id (Arrive other packet) was = was
@@ -65,14 +64,14 @@ indifferentBy id Tick was = was
 -- and no accepted leave of it came later."
 unfoldable pub indifferentAt : ℕ → Trace → Bool
 indifferentAt id begin = false
-indifferentAt id (t and d) = cond (isAccepted (d .answer)) (indifferentBy id (d .call) (indifferentAt id t)) (indifferentAt id t)
+indifferentAt id (t and d) = cond (isAccepted (d .answer)) (indifferentBy id (d .event) (indifferentAt id t)) (indifferentAt id t)
 
 -- "Struck out are the arrives and loads naming another id that is not indifferent at their place, an inactive one or one
 -- above 63 too."
-unfoldable pub isStruck : ℕ → Trace → Call → Bool
+unfoldable pub isStruck : ℕ → Trace → Event → Bool
 isStruck chosen t (Open threshold discipline seed) = false
-isStruck chosen t (Join id type rate burst) = false
-isStruck chosen t (Change id type rate burst) = false
+isStruck chosen t (Join id kind rate burst) = false
+isStruck chosen t (Change id kind rate burst) = false
 isStruck chosen t (Leave id) = false
 isStruck chosen t (Load id dummies) = not (eqb id chosen) && not (indifferentAt id t)
 isStruck chosen t (Arrive id packet) = not (eqb id chosen) && not (indifferentAt id t)
@@ -81,7 +80,7 @@ isStruck chosen t Tick = false
 -- "All other calls are kept": the history of the kept calls.
 unfoldable pub kept : ℕ → Trace → History
 kept chosen begin = start
-kept chosen (t and d) = cond (isStruck chosen t (d .call)) (kept chosen t) (kept chosen t then d .call)
+kept chosen (t and d) = cond (isStruck chosen t (d .event)) (kept chosen t) (kept chosen t then d .event)
 
 -- What some calls of a trace show, latest first, each with its number among the kept calls: "the n-th kept call of one
 -- history is compared with the n-th of the other".
@@ -92,11 +91,11 @@ log chosen which shows (t and d) =
 
 -- "its departures the slots whose outcome bears its id, with that outcome and the tick's number among the kept calls"
 unfoldable pub departure : ℕ → Dealing → Bool
-departure id d = isTick (d .call) && isDeparture id (d .answer)
+departure id d = isTick (d .event) && isDeparture id (d .answer)
 
 -- "its drops its arrivals answered 14 or 15"
 unfoldable pub drop : ℕ → Dealing → Bool
-drop id d = names id (d .call) && (isArrival (d .call) && (eqb (number (d .answer)) 14 || eqb (number (d .answer)) 15))
+drop id d = names id (d .event) && (isArrival (d .event) && (eqb (number (d .answer)) 14 || eqb (number (d .answer)) 15))
 
 -- the answers of those dealings that are logged
 abbrev pub answersOf : ℕ → (Trace → Dealing → Bool) → Trace → List (ℕ × Answer)
@@ -105,7 +104,7 @@ answersOf chosen which = log chosen which (λ d. d .answer)
 -- one client's answers, departures and drops, at those places where `when` holds
 pub record SameDealings (chosen id : ℕ) (when : Trace → Bool) (t u : Trace) : Type 0 where
   -- "A client's answers are what its own calls get, accepted or the number"
-  pub answers : answersOf chosen (λ p d. when p && names id (d .call)) t ≡ answersOf chosen (λ p d. when p && names id (d .call)) u
+  pub answers : answersOf chosen (λ p d. when p && names id (d .event)) t ≡ answersOf chosen (λ p d. when p && names id (d .event)) u
   pub departures : answersOf chosen (λ p d. when p && departure id d) t ≡ answersOf chosen (λ p d. when p && departure id d) u
   pub drops : answersOf chosen (λ p d. when p && drop id d) t ≡ answersOf chosen (λ p d. when p && drop id d) u
 
@@ -118,9 +117,9 @@ pub record SameHoldings (id : ℕ) (x y : Holdings) : Type 0 where
 -- what is compared at two places: behind one is the trace t, and the core there holds x; behind the other u and y
 pub record LooksSame (chosen : ℕ) (t : Trace) (x : Holdings) (u : Trace) (y : Holdings) : Type 0 where
   -- "the answers to its joins, changes and leaves", and those to every open
-  pub settings : answersOf chosen (λ p d. isSetting (d .call)) t ≡ answersOf chosen (λ p d. isSetting (d .call)) u
+  pub settings : answersOf chosen (λ p d. isSetting (d .event)) t ≡ answersOf chosen (λ p d. isSetting (d .event)) u
   -- every slot's rule, "and the picks under rule 2"
-  pub slots : log chosen (λ p d. isTick (d .call)) (λ d. d .pick) t ≡ log chosen (λ p d. isTick (d .call)) (λ d. d .pick) u
+  pub slots : log chosen (λ p d. isTick (d .event)) (λ d. d .pick) t ≡ log chosen (λ p d. isTick (d .event)) (λ d. d .pick) u
   -- the chosen client, active or not
   pub chosenDealings : SameDealings chosen chosen (λ p. true) t u
   pub chosenHoldings : SameHoldings chosen x y

@@ -37,11 +37,11 @@ unfoldable pub longest : ℕ
 longest = 1518
 
 -- "indifferent (type 1) or private (type 2)"
-unfoldable pub indifferentType : ℕ
-indifferentType = 1
+unfoldable pub indifferentKind : ℕ
+indifferentKind = 1
 
-unfoldable pub privateType : ℕ
-privateType = 2
+unfoldable pub privateKind : ℕ
+privateKind = 2
 
 -- "After the eighth throw in one draw the ninth value counts as it is" (paper 02, S-1).
 unfoldable pub throws : ℕ

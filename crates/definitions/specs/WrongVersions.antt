@@ -9,7 +9,7 @@ use lib.ListN.{length}
 use Rattle.definitions.specs.declared.Packet.{Packet}
 use Rattle.definitions.specs.declared.Outcome.{Outcome}
 use Rattle.definitions.specs.declared.Outcome.the-variants.{Dummy, Idle, None}
-use Rattle.definitions.specs.declared.Call.{Call}
+use Rattle.definitions.specs.Event.{Event}
 use Rattle.definitions.specs.declared.Answer.the-variants.{Slot}
 use Rattle.definitions.specs.Sizes.{ids, places, shares}
 use Rattle.definitions.specs.Draw.{firstFrom}
@@ -26,8 +26,8 @@ use Rattle.definitions.specs.Altered.{withTick, byTurn, withArrive, room
 -- a history, and a call behind it that gets another answer than the calls define
 pub record Differs (S : Scheduler) : Type 0 where
   pub history : History
-  pub call : Call
-  pub differs : answerAt S history call ≢ answerAt scheduler history call
+  pub event : Event
+  pub differs : answerAt S history event ≢ answerAt scheduler history event
 
 -- a slot with an outcome, in which nothing is sent
 unfoldable pub unsent : State → Outcome → Result
@@ -46,7 +46,7 @@ abbrev pub alwaysDummy : Scheduler
 alwaysDummy = schedulerBy (withTick (λ s. dummyBy (turn s .rule) s)) pickOf
 
 -- "the first tick by the rule and every later one idle": it remembers whether it has ticked
-unfoldable pub idleOnceTicked : Core × Bool → Call → Result
+unfoldable pub idleOnceTicked : Core × Bool → Event → Result
 idleOnceTicked inside c = cond (inside .1) (withTick (λ s. unsent s (Idle (turn s .id))) (inside .0) c) (step (inside .0) c)
 
 abbrev pub laterIdle : Scheduler
@@ -96,7 +96,7 @@ abbrev pub notKept : Scheduler
 notKept = schedulerBy (withArrive forgotten) pickOf
 
 -- "a refusal to every call", with any numbers
-abbrev pub refusesAll : (Core → Call → ℕ) → Scheduler
+abbrev pub refusesAll : (Core → Event → ℕ) → Scheduler
 refusesAll number = schedulerBy (λ core c. refused (number core c) core) pickOf
 
 -- "`none` always"
@@ -110,5 +110,5 @@ pub record AllDiffer : Type 0 where
   pub drainedEarly-differs : Differs drainedEarly
   pub lowestId-differs : Differs lowestId
   pub notKept-differs : Differs notKept
-  pub refusesAll-differs : (number : Core → Call → ℕ) → Differs (refusesAll number)
+  pub refusesAll-differs : (number : Core → Event → ℕ) → Differs (refusesAll number)
   pub alwaysNone-differs : Differs alwaysNone

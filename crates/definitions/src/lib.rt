@@ -35,40 +35,6 @@ pub struct Packet {
     pub length: u32,
 }
 
-// The seven calls, with their arguments in the order of the paper. Any number may stand anywhere.
-// `kind` is the paper's type, 1 or 2.
-pub enum Call {
-    Open {
-        threshold: u32,
-        discipline: u32,
-        seed: u32,
-    },
-    Join {
-        id: u32,
-        kind: u32,
-        rate: u32,
-        burst: u32,
-    },
-    Change {
-        id: u32,
-        kind: u32,
-        rate: u32,
-        burst: u32,
-    },
-    Leave {
-        id: u32,
-    },
-    Load {
-        id: u32,
-        dummies: u32,
-    },
-    Arrive {
-        id: u32,
-        packet: Packet,
-    },
-    Tick,
-}
-
 // What leaves in a slot: "one of four, and a real one carries its packet".
 pub enum Outcome {
     Real {

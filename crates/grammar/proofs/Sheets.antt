@@ -19,6 +19,7 @@ use Rattle.grammar.specs.declared.Line.{Line}
 use Rattle.grammar.specs.declared.Line.the-variants.{Form, Refused as Unread}
 use Rattle.grammar.specs.Bytes.{lineFeed, Unbroken, textLimit}
 use Rattle.grammar.specs.Grammar.{parsed}
+use Rattle.grammar.specs.Calls.{eventOf}
 use Rattle.grammar.specs.Printout.{printed, answered, printedFrom, printout}
 use Rattle.grammar.specs.Lines.{lines, held, heard, toldFrom, told, printedLine, printedLines, LinesPrinted}
 use Rattle.grammar.specs.Sheet.{Sheet, sheet, noted, notedFrom, printedOf, SameLines, PrintsSame, SamenessOnPaper}
@@ -94,7 +95,7 @@ sheet-printed h line (b ∷ text) whole = go (eqb b lineFeed) refl
 -- every printed line is one line, so the lines of the whole are they
 printed-one : (h : History) (l : Line) → OneLine (printedLine h l)
 unfolding printedLine
-printed-one h (Form call) = printed-line (answerAt scheduler h call)
+printed-one h (Form call) = printed-line (answerAt scheduler h (eventOf call))
 printed-one h (Unread n) = printed-line (Refused n)
 
 lines-again : (h : History) (ls : List (List ℕ)) → lines (flatten (printedLines h ls)) ≡ printedLines h ls
@@ -130,8 +131,8 @@ module _ (chosen : ℕ) (which : Trace → Dealing → Bool) where
   line-noted : (h : History) (l : Line) → reverseAux (noted chosen which h l (printedLine h l)) (printedLog h) ≡ printedLog (heard h l)
   unfolding noted printedLine heard printedLog log traceOf dealingAt
   line-noted h (Form call) =
-      noted-if (which (traceOf scheduler h) (dealingAt scheduler h call))
-      (calls (kept chosen (traceOf scheduler h)), printed (answerAt scheduler h call)) (printedLog h)
+      noted-if (which (traceOf scheduler h) (dealingAt scheduler h (eventOf call)))
+      (calls (kept chosen (traceOf scheduler h)), printed (answerAt scheduler h (eventOf call))) (printedLog h)
   line-noted h (Unread n) = refl
 
   rows-noted : (h : History) (m : ℕ) (ls : List (List ℕ))

@@ -7,9 +7,9 @@ use mathlib.Core.List.{List, [], _∷_}
 use mathlib.Core.Option.{Option, none, some}
 use lib.Dec.{leb}
 use lib.ListN.{getD}
-use Rattle.definitions.specs.declared.Call.{Call}
-use Rattle.definitions.specs.declared.Call.the-variants.{Open, Join, Change, Leave, Load, Arrive, Tick}
-use Rattle.definitions.specs.Sizes.{numberLimit, indifferentType, privateType}
+use Rattle.grammar.specs.declared.Call.{Call}
+use Rattle.grammar.specs.declared.Call.the-variants.{Open, Join, Change, Leave, Load, Arrive, Tick}
+use Rattle.definitions.specs.Sizes.{numberLimit, indifferentKind, privateKind}
 use Rattle.grammar.specs.declared.Line.{Line}
 use Rattle.grammar.specs.declared.Line.the-variants.{Form, Refused}
 use Rattle.grammar.specs.Bytes.{bytes}
@@ -30,10 +30,10 @@ rule template call = record { template = template; call = call }
 unfoldable pub rules : List Rule
 rules =
     rule "(open # # #)" (λ n. Open (nth n 0) (nth n 1) (nth n 2))
-    ∷ rule "(join # (private #))" (λ n. Join (nth n 0) privateType (nth n 1) 0)
-    ∷ rule "(join # (indifferent # #))" (λ n. Join (nth n 0) indifferentType (nth n 1) (nth n 2))
-    ∷ rule "(change # (private #))" (λ n. Change (nth n 0) privateType (nth n 1) 0)
-    ∷ rule "(change # (indifferent # #))" (λ n. Change (nth n 0) indifferentType (nth n 1) (nth n 2))
+    ∷ rule "(join # (private #))" (λ n. Join (nth n 0) privateKind (nth n 1) 0)
+    ∷ rule "(join # (indifferent # #))" (λ n. Join (nth n 0) indifferentKind (nth n 1) (nth n 2))
+    ∷ rule "(change # (private #))" (λ n. Change (nth n 0) privateKind (nth n 1) 0)
+    ∷ rule "(change # (indifferent # #))" (λ n. Change (nth n 0) indifferentKind (nth n 1) (nth n 2))
     ∷ rule "(leave #)" (λ n. Leave (nth n 0))
     ∷ rule "(load # #)" (λ n. Load (nth n 0) (nth n 1))
     ∷ rule "(arrive # (packet # #))" (λ n. Arrive (nth n 0) (record { handle = nth n 1; length = nth n 2 }))

@@ -2,6 +2,7 @@
 pub mod Bytes
 pub mod Numerals
 pub mod Templates
+pub mod Calls
 pub mod Grammar
 pub mod RoundTrip
 pub mod Printout

@@ -11,6 +11,7 @@ use Rattle.definitions.specs.History.{History, start, _then_, scheduler, answer
 use Rattle.grammar.specs.declared.Line.{Line}
 use Rattle.grammar.specs.declared.Line.the-variants.{Form, Refused as Unread}
 use Rattle.grammar.specs.Bytes.{lineFeed, textLimit}
+use Rattle.grammar.specs.Calls.{eventOf}
 use Rattle.grammar.specs.Grammar.{parsed}
 use Rattle.grammar.specs.Printout.{printed, printout}
 
@@ -34,7 +35,7 @@ held line = heldFrom [] line
 
 -- the history behind a line: one that holds no form is no call
 unfoldable pub heard : History → Line → History
-heard h (Form call) = h then call
+heard h (Form call) = h then eventOf call
 heard h (Unread n) = h
 
 unfoldable pub toldFrom : History → List (List ℕ) → History
@@ -47,7 +48,7 @@ told text = toldFrom start text
 
 -- what a line prints behind a history, and what lines print
 unfoldable pub printedLine : History → Line → List ℕ
-printedLine h (Form call) = printed (answerAt scheduler h call)
+printedLine h (Form call) = printed (answerAt scheduler h (eventOf call))
 printedLine h (Unread n) = printed (Refused n)
 
 unfoldable pub printedLines : History → List (List ℕ) → List (List ℕ)

@@ -18,6 +18,7 @@ use Rattle.definitions.specs.Core.{step}
 use Rattle.grammar.specs.declared.Line.{Line}
 use Rattle.grammar.specs.declared.Line.the-variants.{Form, Refused as Unread}
 use Rattle.grammar.specs.Bytes.{bytes, lineFeed, textLimit}
+use Rattle.grammar.specs.Calls.{eventOf}
 use Rattle.grammar.specs.Templates.{filled}
 use Rattle.grammar.specs.Grammar.{parsed}
 
@@ -34,7 +35,7 @@ printed (Slot outcome) = filled (bytes (outcomeTemplate outcome)) (values outcom
 
 -- "A line that yields no form is answered and skipped."
 unfoldable pub answered : Core → Line → Result
-answered core (Form call) = step core call
+answered core (Form call) = step core (eventOf call)
 answered core (Unread n) = refused n core
 
 -- The printout of what is left of a text, with the bytes of the line so far, for a core. Bytes after the last line feed give 16.

@@ -11,6 +11,7 @@ use Rattle.definitions.specs.Sameness.{isSetting, names, indifferentAt, kept, d
 use Rattle.grammar.specs.declared.Line.{Line}
 use Rattle.grammar.specs.declared.Line.the-variants.{Form, Refused as Unread}
 use Rattle.grammar.specs.Bytes.{textLimit}
+use Rattle.grammar.specs.Calls.{eventOf}
 use Rattle.grammar.specs.Printout.{printout}
 use Rattle.grammar.specs.Lines.{lines, held, heard, told}
 
@@ -30,7 +31,7 @@ module _ (chosen : ℕ) where
     -- of a line that holds such a call, the printed line beside it, with the call's number among the kept calls
     unfoldable pub noted : History → Line → List ℕ → List (ℕ × List ℕ)
     noted h (Form call) answer =
-        cond (which (traceOf scheduler h) (dealingAt scheduler h call)) ((calls (kept chosen (traceOf scheduler h)), answer) ∷ []) []
+        cond (which (traceOf scheduler h) (dealingAt scheduler h (eventOf call))) ((calls (kept chosen (traceOf scheduler h)), answer) ∷ []) []
     noted h (Unread n) answer = []
 
     unfoldable pub notedFrom : History → Sheet → List (ℕ × List ℕ)
@@ -43,12 +44,12 @@ module _ (chosen : ℕ) where
 
 -- one client's printed lines, at those places where `when` holds: those of its own calls, its drops among them, and of its slots
 pub record SameLines (chosen id : ℕ) (when : Trace → Bool) (x y : Sheet) : Type 0 where
-  pub ownCalls : printedOf chosen (λ t d. when t && names id (d .call)) x ≡ printedOf chosen (λ t d. when t && names id (d .call)) y
+  pub ownCalls : printedOf chosen (λ t d. when t && names id (d .event)) x ≡ printedOf chosen (λ t d. when t && names id (d .event)) y
   pub slots : printedOf chosen (λ t d. when t && departure id d) x ≡ printedOf chosen (λ t d. when t && departure id d) y
 
 pub record PrintsSame (chosen : ℕ) (x y : Sheet) : Type 0 where
   -- the lines of every open, join, change and leave
-  pub settings : printedOf chosen (λ t d. isSetting (d .call)) x ≡ printedOf chosen (λ t d. isSetting (d .call)) y
+  pub settings : printedOf chosen (λ t d. isSetting (d .event)) x ≡ printedOf chosen (λ t d. isSetting (d .event)) y
   pub chosenLines : SameLines chosen chosen (λ t. true) x y
   pub indifferentLines : (id : ℕ) → SameLines chosen id (indifferentAt id) x y
 

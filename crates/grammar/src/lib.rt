@@ -1,5 +1,38 @@
 // What a line of the script holds. The grammar and the printout stand in specs/.
-use definitions::Call;
+use definitions::Packet;
+
+// The calls that a form may stand for, with their arguments in the order of the paper. Any number may stand anywhere.
+pub enum Call {
+    Open {
+        threshold: u32,
+        discipline: u32,
+        seed: u32,
+    },
+    Join {
+        id: u32,
+        kind: u32,
+        rate: u32,
+        burst: u32,
+    },
+    Change {
+        id: u32,
+        kind: u32,
+        rate: u32,
+        burst: u32,
+    },
+    Leave {
+        id: u32,
+    },
+    Load {
+        id: u32,
+        dummies: u32,
+    },
+    Arrive {
+        id: u32,
+        packet: Packet,
+    },
+    Tick,
+}
 
 // What a line holds: a form, as the call that it stands for, or the number that it is answered with.
 pub enum Line {

@@ -7,7 +7,7 @@ use mathlib.Core.Bool.{Bool, true, false, cond, not, _&&_, and-false}
 use mathlib.Core.List.{[], map}
 use lib.Dec.{eqb, ltb}
 use lib.ListN.{getD, replicate, length-replicate}
-use Rattle.definitions.specs.declared.Call.the-variants.{Open}
+use Rattle.definitions.specs.Event.{Open}
 use Rattle.definitions.specs.declared.Answer.the-variants.{Accepted, Refused}
 use Rattle.definitions.specs.Sizes.{ids, places}
 use Rattle.definitions.specs.Client.{absent, nobody}

@@ -4,7 +4,7 @@ use Prim.Native.Nat.{ℕ, zero, suc}
 use mathlib.Core.Path.{_≡_, refl, sym}
 use mathlib.Core.Bool.{false}
 use native.Mathlib.Omega.{arith}
-use Rattle.definitions.specs.declared.Call.the-variants.{Open}
+use Rattle.definitions.specs.Event.{Open}
 use Rattle.definitions.specs.Checks.{openChecks}
 use Rattle.definitions.specs.History.{_then_, begin}
 use Rattle.tables.specs.Meaning.{coreOf}

@@ -2,7 +2,7 @@
 -- or refused. That any other call may follow is `CodeValid` there, with that call's contract.
 use Prim.Native.Nat.{ℕ}
 use mathlib.Core.Path.{_≡_}
-use Rattle.definitions.specs.declared.Call.the-variants.{Open}
+use Rattle.definitions.specs.Event.{Open}
 use Rattle.definitions.specs.History.{start, _then_}
 use Rattle.tables.specs.Run.{Run, callsOf}
 

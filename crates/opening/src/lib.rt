@@ -8,7 +8,7 @@ use tables::CLIENTS;
 use tables::Control;
 use tables::STORE;
 ghost use mathlib.Core.Path.{_≡_};
-ghost use Rattle.definitions.specs.declared.Call.the-variants.{Open};
+ghost use Rattle.definitions.specs.Event.{Open};
 ghost use Rattle.definitions.specs.State.{unopened};
 ghost use Rattle.definitions.specs.Checks.{openChecks};
 ghost use Rattle.tables.specs.Tables.{Tables, tables};

@@ -9,7 +9,7 @@ use mathlib.Core.Option.{Option, none, some}
 use borrow.Author.Tests.{eqb-false, not-true}
 use lib.Dec.{leb, eqb}
 use lib.ListN.{drop}
-use Rattle.definitions.specs.declared.Call.{Call}
+use Rattle.grammar.specs.declared.Call.{Call}
 use Rattle.grammar.specs.declared.Line.{Line}
 use Rattle.grammar.specs.declared.Line.the-variants.{Form, Refused}
 use Rattle.definitions.specs.Sizes.{numberLimit}

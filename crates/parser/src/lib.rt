@@ -1,10 +1,10 @@
 // Reads one line of the script: any bytes, any number of them. The grammar that it reads by is `parsed` of crate grammar.
 // A form is the text that it begins with, a template for the rest, in which # stands for a number, and the call that the numbers
 // make. One matcher walks the templates.
-use definitions::Call;
 use definitions::INDIFFERENT;
 use definitions::PRIVATE;
 use definitions::Packet;
+use grammar::Call;
 use grammar::Line;
 ghost use mathlib.Core.Path.{_≡_};
 ghost use Prim.Native.Nat.{min};

@@ -2,7 +2,7 @@
 use Prim.Native.Nat.{ℕ, zero, suc, _+_}
 use mathlib.Core.Path.{_≡_, refl, sym, ap, subst, _∙_}
 use native.Mathlib.Nat.{add-zero, add-suc}
-use Rattle.definitions.specs.declared.Call.{Call}
+use Rattle.grammar.specs.declared.Call.{Call}
 use Rattle.definitions.specs.Generator.{stepped}
 use Rattle.generator.specs.declared.Generator.{Generator}
 use Rattle.tables.specs.declared.Answered.{Answered}
@@ -10,6 +10,7 @@ use Rattle.tables.specs.Tables.{Tables}
 use Rattle.tables.specs.Invariant.{Valid}
 use Rattle.tables.specs.Promise.{Meets}
 use Rattle.runs.specs.declared.Progress.{Progress}
+use Rattle.grammar.specs.Calls.{eventOf}
 use Rattle.runs.specs.Calls.{callOf}
 use Rattle.runs.specs.Check.{checkWith}
 use Rattle.runs.specs.LongRun.{LongRun, nthDraw, callFrom, next, further, after}
@@ -41,7 +42,7 @@ pub goes-once : (p : Progress) (t : Tables) {a b c d : Generator} {call : Call} 
     → c .value ≡ stepped (b .value)
     → d .value ≡ stepped (c .value)
     → call ≡ callOf (a .value) (b .value) (c .value) (d .value)
-    → Meets call (p .control) t r u
+    → Meets (eventOf call) (p .control) t r u
     → h ≡ checkWith (p .check) (r .answer)
     → Goes 1 p t (record { control = r .control; maker = d; check = h }) u
 unfolding further next callFrom nthDraw

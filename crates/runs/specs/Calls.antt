@@ -4,23 +4,23 @@ use Prim.Native.Nat.{ℕ, _+_, _*_, _/_, _%_}
 use mathlib.Core.Bool.{cond}
 use lib.Dec.{eqb, leb}
 use Rattle.definitions.specs.declared.Packet.{Packet}
-use Rattle.definitions.specs.declared.Call.{Call}
-use Rattle.definitions.specs.declared.Call.the-variants.{Open, Join, Change, Leave, Load, Arrive, Tick}
+use Rattle.grammar.specs.declared.Call.{Call}
+use Rattle.grammar.specs.declared.Call.the-variants.{Open, Join, Change, Leave, Load, Arrive, Tick}
 
 -- "b mod 66 if b / 65536 is odd, b mod 8 if it is even"
 unfoldable pub idOf : ℕ → ℕ
 idOf b = cond (eqb (b / 65536 % 2) 1) (b % 66) (b % 8)
 
 -- "A type is c mod 3. A rate is d mod 33."
-abbrev pub typeOf : ℕ → ℕ
-typeOf c = c % 3
+abbrev pub kindFrom : ℕ → ℕ
+kindFrom c = c % 3
 
 abbrev pub rateOf : ℕ → ℕ
 rateOf d = d % 33
 
 -- "(d / 64) mod 66 for type 1; for any other type it is ((d / 64) mod 66) / 65"
 unfoldable pub burstOf : ℕ → ℕ → ℕ
-burstOf type d = cond (eqb type 1) (d / 64 % 66) (d / 64 % 66 / 65)
+burstOf kind d = cond (eqb kind 1) (d / 64 % 66) (d / 64 % 66 / 65)
 
 -- "a packet with handle d and length 63 + c mod 1457"
 abbrev pub packetOf : ℕ → ℕ → Packet
@@ -33,8 +33,8 @@ trafficAt k id c d = cond (leb k 516) (Load id (c % 130)) (cond (leb k 3395) (Ar
 unfoldable pub callAt : ℕ → ℕ → ℕ → ℕ → Call
 callAt k b c d =
     cond (eqb k 0) (Open (b % 1026) (c % 3) (d % 6 * 316840187))
-    (cond (leb k 160) (Join (idOf b) (typeOf c) (rateOf d) (burstOf (typeOf c) d))
-    (cond (leb k 240) (Change (idOf b) (typeOf c) (rateOf d) (burstOf (typeOf c) d))
+    (cond (leb k 160) (Join (idOf b) (kindFrom c) (rateOf d) (burstOf (kindFrom c) d))
+    (cond (leb k 240) (Change (idOf b) (kindFrom c) (rateOf d) (burstOf (kindFrom c) d))
     (cond (leb k 260) (Leave (idOf b)) (trafficAt k (idOf b) c d))))
 
 -- "With k = a mod 4096"

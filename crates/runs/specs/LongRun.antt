@@ -1,10 +1,11 @@
 -- A long run (docs/LONG_RUNS.md): it "makes calls from a seed and keeps a running check of the answers".
 use Prim.Native.Nat.{ℕ, zero, suc}
-use Rattle.definitions.specs.declared.Call.{Call}
+use Rattle.grammar.specs.declared.Call.{Call}
 use Rattle.definitions.specs.Generator.{stepped}
 use Rattle.definitions.specs.State.{Core, unopened}
 use Rattle.definitions.specs.Checks.{Result}
 use Rattle.definitions.specs.Core.{step}
+use Rattle.grammar.specs.Calls.{eventOf}
 use Rattle.runs.specs.Calls.{callOf}
 use Rattle.runs.specs.Check.{checkWith}
 
@@ -36,7 +37,7 @@ taken run result = record {
 
 -- one call more, and so many
 unfoldable pub next : LongRun → LongRun
-next run = taken run (step (run .core) (callFrom (run .value)))
+next run = taken run (step (run .core) (eventOf (callFrom (run .value))))
 
 unfoldable pub further : ℕ → LongRun → LongRun
 further zero run = run

@@ -1,10 +1,10 @@
 // Long runs: calls made from a seed, and a running check of their answers.
 use definitions::Answer;
-use definitions::Call;
 use definitions::INDIFFERENT;
 use definitions::Outcome;
 use definitions::Packet;
 use generator::Generator;
+use grammar::Call;
 use order::LINKS;
 use tables::CLIENTS;
 use tables::Control;

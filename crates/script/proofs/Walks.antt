@@ -6,7 +6,7 @@ use mathlib.Core.List.{List, _++_}
 use native.Mathlib.Omega.{arith}
 use lib.ListN.{length, take, drop, length-drop, length-take}
 use lib.Seq.{take-all}
-use Rattle.definitions.specs.declared.Call.{Call}
+use Rattle.grammar.specs.declared.Call.{Call}
 use Rattle.definitions.specs.declared.Answer.{Answer}
 use Rattle.definitions.specs.declared.Answer.the-variants.{Refused}
 use Rattle.definitions.specs.State.{Core}
@@ -15,6 +15,7 @@ use Rattle.definitions.specs.Core.{step}
 use Rattle.grammar.specs.declared.Line.the-variants.{Form, Refused as Unread}
 use Rattle.grammar.specs.Bytes.{Unbroken}
 use Rattle.grammar.specs.Grammar.{parsed}
+use Rattle.grammar.specs.Calls.{eventOf}
 use Rattle.grammar.specs.Printout.{printed, answered}
 use Rattle.grammar.proofs.Rooms.{Holds, Unread as Bare, parsed-length, parsed-unread, sixteen-length}
 use Rattle.printer.specs.Appended.{Appended}
@@ -86,12 +87,12 @@ module _ (text : List ℕ) (at : ℕ) (out : List ℕ) (written : ℕ) (c : Cont
         )
 
     -- a line with a form
-    pub walk-form : (call : Call) → parsed (between text at end) ≡ Form call → (r : Answered) (u : Tables) → Meets call c t r u
+    pub walk-form : (call : Call) → parsed (between text at end) ≡ Form call → (r : Answered) (u : Tables) → Meets (eventOf call) c t r u
         → Printed (r .answer) out written new more
         → Walking text (span .next) new more (r .control) u × (at < span .next)
     unfolding answered
     walk-form call e r u m p =
-        let told : answered (coreOf c t) (parsed (between text at end)) ≡ step (coreOf c t) call = ap (answered (coreOf c t)) e in
+        let told : answered (coreOf c t) (parsed (between text at end)) ≡ step (coreOf c t) (eventOf call) = ap (answered (coreOf c t)) e in
         let long : 6 ≤ length (between text at end) = subst (Holds (between text at end) 6) e (parsed-length (between text at end)) in
         let next = closed-walked text at end (l .forth) (coreOf c t) out written new more (w .walked) feed (l .closed feed) (l .unbroken)
         (appended-front (wrote p) ∙ ap (λ (a : Answer). take written out ++ printed a) (m .answer ∙ ap (λ (q : Result). q .answer) (sym told)))

@@ -1,5 +1,5 @@
 // A script from its first byte to its last: each line is parsed, carried out and answered by one printed line.
-use definitions::Call;
+use grammar::Call;
 use grammar::Line;
 use order::LINKS;
 use tables::Answered;
@@ -11,6 +11,7 @@ ghost use lib.ListN.{length, take};
 ghost use Prim.Native.Nat.{_≤_, _<_};
 ghost use mathlib.Core.List.{[]};
 ghost use Rattle.definitions.specs.State.{unopened};
+ghost use Rattle.grammar.specs.Calls.{eventOf};
 ghost use Rattle.grammar.specs.Printout.{printedFrom};
 ghost use Rattle.tables.specs.Tables.{tables};
 ghost use Rattle.tables.specs.Invariant.{Valid};
@@ -44,7 +45,7 @@ pub fn perform(
     call: Call,
 ) -> Answered
     requires { ⌜ Valid control (tables (now clients) (now handles) (now lengths) (now links)) ⌝ }
-    ensures { λ r. ⌜ Meets call control
+    ensures { λ r. ⌜ Meets (eventOf call) control
         (tables (now (clients .entry)) (now (handles .entry)) (now (lengths .entry)) (now (links .entry))) r
         (tables (now (clients .exit)) (now (handles .exit)) (now (lengths .exit)) (now (links .exit))) ⌝ }
 {

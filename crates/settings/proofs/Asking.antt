@@ -13,7 +13,7 @@ use Rattle.definitions.specs.Checks.{rates, termChecks, activeChecks, changeChe
 use Rattle.tables.specs.declared.Control.{Control}
 use Rattle.tables.specs.Tables.{Tables, rateAt}
 use Rattle.tables.specs.Meaning.{clientAt, clientsOf, stateOf}
-use Rattle.tables.specs.Invariant.{Sound-core}
+use Rattle.tables.specs.Invariant.{SoundCore}
 use Rattle.tables.specs.Numbers.{firstFailed, refusal}
 use Rattle.tables.proofs.Touch.{client-own}
 
@@ -70,7 +70,7 @@ module _ (c : Control) (t : Tables) (id : ℕ) where
         ∙ asked-first (c .opened) (ltb id ids) active terms (λ z. some (e ∙ leave-asks ∙ z))
         ∙ sym change-asks
 
-    pub change-terms : Sound-core c t → refusal c t (λ s. leaveChecks s id) ≡ 0
+    pub change-terms : SoundCore c t → refusal c t (λ s. leaveChecks s id) ≡ 0
         → firstFailed (termChecks (c .threshold) (c .rates - rateAt (t .clients) id) kind rate burst)
         ≡ refusal c t (λ s. changeChecks s id kind rate burst)
     unfolding clientAt

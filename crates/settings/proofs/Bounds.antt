@@ -16,7 +16,7 @@ use Rattle.definitions.proofs.Limits.Client.{QueueBy, rate-high, burst-high, li
 use Rattle.tables.specs.declared.Control.{Control}
 use Rattle.tables.specs.Tables.{Tables, countAt}
 use Rattle.tables.specs.Meaning.{clientAt, stateOf}
-use Rattle.tables.specs.Invariant.{Sound-core}
+use Rattle.tables.specs.Invariant.{SoundCore}
 use Rattle.tables.proofs.Ring.{queue-length}
 use Rattle.settings.specs.Writes.{Room, Ready}
 use Rattle.settings.proofs.Rates.{limits-own, rate-held}
@@ -49,7 +49,7 @@ pub fitting-holds : (kind rate burst : ℕ) → Fitting kind rate burst → held
 unfolding joining
 fitting-holds kind rate burst f = held-active (joining kind rate burst) (f .active)
 
-module _ (c : Control) (t : Tables) (sound : Sound-core c t) (id : ℕ) (below : id < ids) where
+module _ (c : Control) (t : Tables) (sound : SoundCore c t) (id : ℕ) (below : id < ids) where
   count-high : countAt (t .clients) id ≤ places
   unfolding clientAt
   count-high =

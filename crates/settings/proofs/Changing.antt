@@ -6,7 +6,7 @@ use mathlib.Core.Logic.{_≢_}
 use mathlib.Core.Bool.{true, false}
 use mathlib.Core.List.{List}
 use borrow.Author.Tests.{ltb-true}
-use Rattle.definitions.specs.declared.Call.the-variants.{Change}
+use Rattle.definitions.specs.Event.{Change}
 use Rattle.definitions.specs.declared.Answer.the-variants.{Accepted, Refused}
 use Rattle.definitions.specs.Sizes.{ids}
 use Rattle.definitions.specs.Client.{Kind, kindOf, isActive, sameKind, Client, joining, retuned, changed}
@@ -19,7 +19,7 @@ use Rattle.tables.specs.declared.Control.{Control}
 use Rattle.tables.specs.declared.Answered.{Answered}
 use Rattle.tables.specs.Tables.{Tables, rateAt}
 use Rattle.tables.specs.Meaning.{kindAt, clientAt, stateOf}
-use Rattle.tables.specs.Invariant.{Sound-core, Valid}
+use Rattle.tables.specs.Invariant.{SoundCore, Valid}
 use Rattle.tables.specs.Numbers.{refusal}
 use Rattle.tables.specs.Promise.{Meets}
 use Rattle.tables.proofs.Promises.{refused-with, opened, all-passed, sound-before, accepted-with}
@@ -61,7 +61,7 @@ module _ (c : Control) (t : Tables) (valid : Valid c t) (id kind rate burst : �
     unfolding changes
     passed = all-passed (Change id kind rate burst) (changes id kind rate burst) c t valid none
 
-    sound : Sound-core c t
+    sound : SoundCore c t
     unfolding changes
     sound = sound-before (Change id kind rate burst) (changes id kind rate burst) c t valid none
 

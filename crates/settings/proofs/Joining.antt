@@ -5,7 +5,7 @@ use mathlib.Core.Logic.{_≢_}
 use mathlib.Core.Bool.{false}
 use mathlib.Core.List.{[]}
 use borrow.Author.Tests.{lt-ltb, ltb-true, not-true}
-use Rattle.definitions.specs.declared.Call.the-variants.{Join}
+use Rattle.definitions.specs.Event.{Join}
 use Rattle.definitions.specs.declared.Answer.the-variants.{Accepted, Refused}
 use Rattle.definitions.specs.Sizes.{ids}
 use Rattle.definitions.specs.Client.{Kind, absent, indifferent, private, kindOf, isActive, isIndifferent, joining}
@@ -19,7 +19,7 @@ use Rattle.tables.specs.declared.Control.{Control}
 use Rattle.tables.specs.declared.Answered.{Answered}
 use Rattle.tables.specs.Tables.{Tables, rateAt}
 use Rattle.tables.specs.Meaning.{kindAt, clientAt, clientsOf, stateOf}
-use Rattle.tables.specs.Invariant.{Sound-core, Valid}
+use Rattle.tables.specs.Invariant.{SoundCore, Valid}
 use Rattle.tables.specs.Numbers.{refusal}
 use Rattle.tables.specs.Promise.{Meets}
 use Rattle.tables.proofs.Promises.{refused-with, opened, all-passed, sound-before, accepted-with}
@@ -45,7 +45,7 @@ module _ (c : Control) (t : Tables) (valid : Valid c t) (id kind rate burst : �
     unfolding joins
     passed = all-passed (Join id kind rate burst) (joins id kind rate burst) c t valid none
 
-    sound : Sound-core c t
+    sound : SoundCore c t
     unfolding joins
     sound = sound-before (Join id kind rate burst) (joins id kind rate burst) c t valid none
 

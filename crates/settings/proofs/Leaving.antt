@@ -6,9 +6,9 @@ use mathlib.Core.Logic.{_≢_}
 use mathlib.Core.List.{List}
 use native.Mathlib.Omega.{arith}
 use borrow.Author.Tests.{ltb-true}
-use Rattle.definitions.specs.declared.Call.the-variants.{Leave}
+use Rattle.definitions.specs.Event.{Leave}
 use Rattle.definitions.specs.declared.Answer.the-variants.{Accepted, Refused}
-use Rattle.definitions.specs.Sizes.{ids, shares, indifferentType, privateType}
+use Rattle.definitions.specs.Sizes.{ids, shares, indifferentKind, privateKind}
 use Rattle.definitions.specs.Client.{Client, nobody, kindOf, joining}
 use Rattle.definitions.specs.State.{without}
 use Rattle.definitions.specs.Checks.{activeChecks, leaveChecks}
@@ -20,7 +20,7 @@ use Rattle.tables.specs.declared.Control.{Control}
 use Rattle.tables.specs.declared.Answered.{Answered}
 use Rattle.tables.specs.Tables.{Tables, rateAt}
 use Rattle.tables.specs.Meaning.{stateOf}
-use Rattle.tables.specs.Invariant.{Sound-core, Valid}
+use Rattle.tables.specs.Invariant.{SoundCore, Valid}
 use Rattle.tables.specs.Numbers.{refusal}
 use Rattle.tables.specs.Promise.{Meets}
 use Rattle.tables.proofs.Promises.{refused-with, opened, all-passed, sound-before, accepted-with}
@@ -30,7 +30,7 @@ use Rattle.settings.proofs.Bounds.{room, ready}
 use Rattle.settings.proofs.Placing.{placedTables, withdrawn, Placement, placed-shape, placed-opened, placed-state}
 
 nobody-joins : joining 0 0 0 ≡ nobody
-unfolding joining kindOf indifferentType privateType shares
+unfolding joining kindOf indifferentKind privateKind shares
 nobody-joins = refl
 
 none-held : held nobody ≡ 0
@@ -48,7 +48,7 @@ module _ (c : Control) (t : Tables) (valid : Valid c t) (id : ℕ) where
     unfolding leaves
     passed = all-passed (Leave id) (leaves id) c t valid none
 
-    sound : Sound-core c t
+    sound : SoundCore c t
     unfolding leaves
     sound = sound-before (Leave id) (leaves id) c t valid none
 

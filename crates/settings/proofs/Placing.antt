@@ -17,7 +17,7 @@ use Rattle.order.proofs.Walk.{ordered-walked}
 use Rattle.tables.specs.declared.Control.{Control}
 use Rattle.tables.specs.Tables.{Tables, tables, field, rateAt, ring}
 use Rattle.tables.specs.Meaning.{kindAt, packetAt, queueAt, clientAt, clientsOf, orderOf, stateOf}
-use Rattle.tables.specs.Invariant.{Shape, Sound-core}
+use Rattle.tables.specs.Invariant.{Shape, SoundCore}
 use Rattle.tables.proofs.Touch.{Touch, touch-clients, touch-shape}
 use Rattle.settings.specs.Writes.{withClient, traded, Recast, Withdrawn, Withdraws}
 use Rattle.settings.proofs.Remarks.{recast-kind}
@@ -40,14 +40,14 @@ apart-kinds indifferent e = true-false e refl
 apart-kinds private e = refl
 
 -- the id's places have left the order
-pub withdrawn : (c : Control) (t : Tables) (sound : Sound-core c t) (id : ℕ) (below : id < ids) (links : List ℕ)
+pub withdrawn : (c : Control) (t : Tables) (sound : SoundCore c t) (id : ℕ) (below : id < ids) (links : List ℕ)
     → Withdraws c (t .clients) (t .links) id links
     → Withdrawn links id (sound .shape .order)
 withdrawn c t sound id below links w = w (sound .shape .order) (sound .shape .ordered) (sound .shape .placed id below)
 
 -- what a new client's place in control and tables is made of
 pub record Placement (c : Control) (t : Tables) (id kind rate burst : ℕ) (d : Control) (links : List ℕ) : Type 0 where
-  pub sound : Sound-core c t
+  pub sound : SoundCore c t
   pub below : id < ids
   -- it holds its rate of the threshold
   pub holds : held (joining kind rate burst) ≡ rate

@@ -14,7 +14,7 @@ use Rattle.definitions.proofs.Laws.Rates.{held, rates-put}
 use Rattle.tables.specs.declared.Control.{Control}
 use Rattle.tables.specs.Tables.{Tables, rateAt}
 use Rattle.tables.specs.Meaning.{clientAt, clientsOf, stateOf}
-use Rattle.tables.specs.Invariant.{Sound-core}
+use Rattle.tables.specs.Invariant.{SoundCore}
 use Rattle.tables.proofs.Touch.{client-own}
 
 held-limits : (x : Client) → ClientLimits x → held x ≡ x .rate
@@ -26,7 +26,7 @@ held-limits x = go (x .kind)
     go indifferent l = refl
     go private l = refl
 
-module _ (c : Control) (t : Tables) (sound : Sound-core c t) (id : ℕ) (below : id < ids) where
+module _ (c : Control) (t : Tables) (sound : SoundCore c t) (id : ℕ) (below : id < ids) where
   pub limits-own : ClientLimits (clientAt c t id)
   unfolding stateOf
   limits-own = subst ClientLimits (client-own c t (sound .shape) id below) (sound .limits .clientLimits id)

@@ -13,7 +13,7 @@ use Rattle.definitions.proofs.Laws.Rates.{held, held-active}
 use Rattle.tables.specs.declared.Control.{Control}
 use Rattle.tables.specs.Tables.{Tables, tables, field, rateAt, levelAt, ring}
 use Rattle.tables.specs.Meaning.{kindAt, packetAt, queueAt, clientAt, clientsOf, orderOf, stateOf}
-use Rattle.tables.specs.Invariant.{Shape, Sound-core}
+use Rattle.tables.specs.Invariant.{Shape, SoundCore}
 use Rattle.tables.proofs.Touch.{Touch, touch-clients, touch-shape, waits-here, client-own}
 use Rattle.settings.specs.Writes.{retunedClients, traded}
 use Rattle.settings.proofs.Entries.{terms-length, terms-own, terms-only}
@@ -26,7 +26,7 @@ retunedControl c t id rate = traded c (rateAt (t .clients) id) rate
 abbrev pub retunedTables : Tables → ℕ → ℕ → ℕ → Tables
 retunedTables t id rate burst = tables (retunedClients (t .clients) id rate burst) (t .handles) (t .lengths) (t .links)
 
-module _ (c : Control) (t : Tables) (sound : Sound-core c t) (id rate burst : ℕ) (below : id < ids)
+module _ (c : Control) (t : Tables) (sound : SoundCore c t) (id rate burst : ℕ) (below : id < ids)
     (active : isActive (kindAt c id) ≡ true) where
   abbrev level : ℕ
   level = min (levelAt (t .clients) id) (burst * shares)

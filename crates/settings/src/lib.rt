@@ -21,7 +21,7 @@ ghost use mathlib.Core.Path.{_≡_};
 ghost use mathlib.Core.Bool.{true};
 ghost use mathlib.Core.List.{List};
 ghost use Prim.Native.Nat.{ℕ, _+_, _^_, _≤_, _<_, min};
-ghost use Rattle.definitions.specs.declared.Call.the-variants.{Join, Change, Leave};
+ghost use Rattle.definitions.specs.Event.{Join, Change, Leave};
 ghost use Rattle.definitions.specs.Sizes.{ids, places};
 ghost use Rattle.definitions.specs.Client.{kindOf, isActive, sameKind};
 ghost use Rattle.definitions.specs.Checks.{within, burstFits, termChecks, joinChecks, changeChecks, leaveChecks};

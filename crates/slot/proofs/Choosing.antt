@@ -28,11 +28,11 @@ use Rattle.order.proofs.Owner.{front-earliest}
 use Rattle.tables.specs.declared.Control.{Control}
 use Rattle.tables.specs.Tables.{Tables, headAt, countAt, ring}
 use Rattle.tables.specs.Meaning.{packetAt, queueAt, clientAt, clientsOf, orderOf, stateOf}
-use Rattle.tables.specs.Invariant.{Shape, Sound-core}
+use Rattle.tables.specs.Invariant.{Shape, SoundCore}
 use Rattle.tables.proofs.Marking.{kind-indifferent, kind-private}
 use Rattle.tables.proofs.Touch.{waits-here, client-own}
 use Rattle.slot.specs.declared.Choice.{Choice}
-use Rattle.slot.specs.Turns.{Chosen, Drawn-among, Held-by-both}
+use Rattle.slot.specs.Turns.{Chosen, DrawnAmong, HeldByBoth}
 use Rattle.slot.proofs.Filling.{rate-first}
 
 -- a queue is empty exactly where its count is 0
@@ -49,7 +49,7 @@ pub order-owners : (c : Control) (t : Tables) (shape : Shape c t) → orderOf t 
 unfolding orderOf
 order-owners c t shape = ap (map owner) (ordered-walked (t .links) (shape .order) (shape .ordered))
 
-module _ (c : Control) (t : Tables) (core : Sound-core c t) where
+module _ (c : Control) (t : Tables) (core : SoundCore c t) where
   abbrev clients : ℕ → Client
   clients = clientsOf c t
 
@@ -92,7 +92,7 @@ module _ (c : Control) (t : Tables) (core : Sound-core c t) where
   indifferent-marks id below = rw (client-own c t (core .shape) id below) (sym (kind-indifferent c id))
 
   -- an active client is of one type, and the control has the rates of all
-  pub held-by-both : Held-by-both c (t .clients)
+  pub held-by-both : HeldByBoth c (t .clients)
   unfolding rates activeRate
   held-by-both =
       core .shape .ratesHeld
@@ -122,7 +122,7 @@ module _ (c : Control) (t : Tables) (core : Sound-core c t) where
       turn-first = rw (sym some-contend ∙ any)
 
       pub chosen-contender : c .discipline ≢ 0
-          → (r : Choice) → Drawn-among 1 word (c .generator .value) (t .clients) r → Chosen r (turn s)
+          → (r : Choice) → DrawnAmong 1 word (c .generator .value) (t .clients) r → Chosen r (turn s)
       unfolding firstTurn stateOf firstCome contenderRate
       chosen-contender drawn r d =
           let agrees = draw-agrees word contends contend (c .generator .value) in
@@ -170,7 +170,7 @@ module _ (c : Control) (t : Tables) (core : Sound-core c t) where
       some-private = any-agrees (c .private) (λ d. isPrivate (d .kind)) private-marks
 
       pub chosen-private : anyBelow ids (marked (c .private)) ≡ true
-          → (r : Choice) → Drawn-among 2 (c .private) (c .generator .value) (t .clients) r → Chosen r (turn s)
+          → (r : Choice) → DrawnAmong 2 (c .private) (c .generator .value) (t .clients) r → Chosen r (turn s)
       unfolding turn ruleOf turnBy stateOf privateRate
       chosen-private any r d =
           let agrees = draw-agrees (c .private) (λ x. isPrivate (x .kind)) private-marks (c .generator .value) in

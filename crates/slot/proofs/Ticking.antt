@@ -3,7 +3,7 @@ use Prim.Native.Nat.{ℕ, _<_}
 use mathlib.Core.Path.{_≡_, refl, sym, ap, _∙_}
 use mathlib.Core.Bool.{true, false}
 use mathlib.Core.List.{List}
-use Rattle.definitions.specs.declared.Call.the-variants.{Tick}
+use Rattle.definitions.specs.Event.{Tick}
 use Rattle.definitions.specs.declared.Answer.the-variants.{Refused, Slot}
 use Rattle.definitions.specs.Sizes.{ids}
 use Rattle.definitions.specs.Client.{Kind, absent, indifferent, private, isIndifferent, Client, spent}

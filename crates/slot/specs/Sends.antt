@@ -17,7 +17,7 @@ use Rattle.order.specs.Order.{Sound, Ordered}
 use Rattle.tables.specs.declared.Control.{Control}
 use Rattle.tables.specs.Tables.{Tables, headAt, countAt}
 use Rattle.tables.specs.Meaning.{clientsOf, orderOf, stateOf, withWaiting}
-use Rattle.tables.specs.Invariant.{Shape, Sound-core}
+use Rattle.tables.specs.Invariant.{Shape, SoundCore}
 use Rattle.slot.specs.declared.Sent.{Sent}
 
 -- an id has lost its mark if it has no packet left
@@ -38,7 +38,7 @@ pub record Unlinked (within : Bool) (place : ℕ) (before after : List ℕ) : Ty
 
 -- who may send: any id but an indifferent one without a packet, whose slot it never is
 pub record Sender (c : Control) (t : Tables) (id : ℕ) : Type 0 where
-  pub core : Sound-core c t
+  pub core : SoundCore c t
   pub below : id < ids
   pub waits : marked (c .indifferent) id ≡ true → countAt (t .clients) id ≢ 0
 

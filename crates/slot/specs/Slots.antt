@@ -6,7 +6,7 @@ use Rattle.definitions.specs.Tick.{Turn, turn, outcomeBy, clientsAfter, orderAf
 use Rattle.tables.specs.declared.Control.{Control}
 use Rattle.tables.specs.Tables.{Tables}
 use Rattle.tables.specs.Meaning.{stateOf}
-use Rattle.tables.specs.Invariant.{Shape, Sound-core}
+use Rattle.tables.specs.Invariant.{Shape, SoundCore}
 use Rattle.slot.specs.declared.Choice.{Choice}
 use Rattle.slot.specs.declared.Sent.{Sent}
 use Rattle.slot.specs.Turns.{Chosen}
@@ -23,7 +23,7 @@ unfilled s t = record {
 
 -- the choice is the turn of a sound core
 pub record Due (c : Control) (t : Tables) (choice : Choice) : Type 0 where
-  pub core : Sound-core c t
+  pub core : SoundCore c t
   pub chosen : Chosen choice (turn (stateOf c t))
 
 -- the turn is done, and the buckets are not refilled yet

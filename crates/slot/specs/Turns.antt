@@ -9,7 +9,7 @@ use Rattle.definitions.specs.Tick.{Rule, rule1, rule2, rule3, Turn}
 use Rattle.draw.specs.Weights.{weightAt}
 use Rattle.tables.specs.declared.Control.{Control}
 use Rattle.tables.specs.Tables.{tables}
-use Rattle.tables.specs.Invariant.{Sound-core}
+use Rattle.tables.specs.Invariant.{SoundCore}
 use Rattle.slot.specs.declared.Choice.{Choice}
 
 abbrev pub numberOf : Rule → ℕ
@@ -24,16 +24,16 @@ pub record Chosen (r : Choice) (t : Turn) : Type 0 where
   pub generator : r .generator .value ≡ t .generator
 
 -- a choice by a draw among the marked ids
-pub record Drawn-among (by word value : ℕ) (clients : List ℕ) (r : Choice) : Type 0 where
+pub record DrawnAmong (by word value : ℕ) (clients : List ℕ) (r : Choice) : Type 0 where
   pub rule : r .rule ≡ by
   pub id : r .id ≡ draw value (weightAt word clients) .id
   pub generator : r .generator .value ≡ draw value (weightAt word clients) .sample .generator
 
 -- the rates held are those of the private clients and those of the indifferent
-abbrev pub Held-by-both : Control → List ℕ → Type 0
-Held-by-both c clients =
+abbrev pub HeldByBoth : Control → List ℕ → Type 0
+HeldByBoth c clients =
     c .rates ≡ sumBelow ids (weightAt (c .private) clients) + sumBelow ids (weightAt (c .indifferent) clients)
 
 -- the core is sound, whatever packets lie in the places: a choice does not look at them
-abbrev pub Sound-with : Control → List ℕ → List ℕ → Type 0
-Sound-with c clients links = (h : List ℕ) × (l : List ℕ) × Sound-core c (tables clients h l links)
+abbrev pub SoundWith : Control → List ℕ → List ℕ → Type 0
+SoundWith c clients links = (h : List ℕ) × (l : List ℕ) × SoundCore c (tables clients h l links)

@@ -22,7 +22,7 @@ ghost use mathlib.Core.Path.{_≡_};
 ghost use mathlib.Core.Bool.{cond};
 ghost use mathlib.Core.List.{List};
 ghost use Prim.Native.Nat.{ℕ, _-_, _≤_, _<_};
-ghost use Rattle.definitions.specs.declared.Call.the-variants.{Tick};
+ghost use Rattle.definitions.specs.Event.{Tick};
 ghost use Rattle.definitions.specs.Sizes.{ids, places, longest};
 ghost use Rattle.definitions.specs.Draw.{sumBelow};
 ghost use Rattle.definitions.specs.Tick.{turn};
@@ -31,9 +31,9 @@ ghost use Rattle.draw.specs.Weights.{weightAt};
 ghost use Rattle.order.specs.Order.{sentinel, Sound};
 ghost use Rattle.tables.specs.Tables.{tables, headAt, countAt};
 ghost use Rattle.tables.specs.Meaning.{packetAt, stateOf};
-ghost use Rattle.tables.specs.Invariant.{Sound-core, Valid};
+ghost use Rattle.tables.specs.Invariant.{SoundCore, Valid};
 ghost use Rattle.tables.specs.Promise.{Meets};
-ghost use Rattle.slot.specs.Turns.{Chosen, Drawn-among, Held-by-both, Sound-with};
+ghost use Rattle.slot.specs.Turns.{Chosen, DrawnAmong, HeldByBoth, SoundWith};
 ghost use Rattle.slot.specs.Sends.{Settled, popped, Unlinked, Sender, Spent};
 ghost use Rattle.slot.specs.Slots.{Due, Done};
 ghost use Rattle.slot.specs.Buckets.{Refillable, Refilled};
@@ -65,7 +65,7 @@ struct Choice {
 // The rates of all private clients together. The control has those of all clients, so the type with fewer marks is summed up, and
 // none where nobody is indifferent.
 fn private_total(control: Control, clients: &[u32; CLIENTS]) -> u64
-    requires { ⌜ Held-by-both control (now clients) ⌝ }
+    requires { ⌜ HeldByBoth control (now clients) ⌝ }
     ensures { λ r. ⌜ r ≡ sumBelow ids (weightAt (control .private) (now (clients .entry))) ⌝ }
 {
     if control.indifferent == 0 {
@@ -86,7 +86,7 @@ fn draw_among(
     generator: Generator,
 ) -> Choice
     requires { ⌜ total ≡ sumBelow ids (weightAt word (now clients)) ⌝ }
-    ensures { λ r. ⌜ Drawn-among rule word (generator .value) (now (clients .entry)) r ⌝ }
+    ensures { λ r. ⌜ DrawnAmong rule word (generator .value) (now (clients .entry)) r ⌝ }
 {
     let sample = draw::sample_below(total, generator);
     let id = draw::pick(word, clients, sample.target);
@@ -101,8 +101,8 @@ fn draw_among(
 // The first of rules 1 to 3 that applies, and whom it picks: "no mark among the indifferent means that none of them waits".
 // The private are drawn among whether they wait or not.
 fn turn(control: Control, clients: &[u32; CLIENTS], links: &[u32; LINKS]) -> Choice
-    requires { ⌜ Sound-with control (now clients) (now links) ⌝ }
-    ensures { λ r. ⌜ ((h l : List ℕ) → Sound-core control (tables (now (clients .entry)) h l (now (links .entry)))
+    requires { ⌜ SoundWith control (now clients) (now links) ⌝ }
+    ensures { λ r. ⌜ ((h l : List ℕ) → SoundCore control (tables (now (clients .entry)) h l (now (links .entry)))
         → Chosen r (turn (stateOf control (tables (now (clients .entry)) h l (now (links .entry)))))) ⌝ }
 {
     let generator = control.generator;

@@ -3,7 +3,7 @@
 use Prim.Native.Nat.{ℕ}
 use mathlib.Core.Path.{refl}
 use Rattle.definitions.specs.declared.Packet.{Packet}
-use Rattle.definitions.specs.declared.Call.the-variants.{Join, Change, Leave, Load, Arrive}
+use Rattle.definitions.specs.Event.{Join, Change, Leave, Load, Arrive}
 use Rattle.definitions.specs.Client.{nobody, joining, changed, loaded, queued}
 use Rattle.definitions.specs.State.{without}
 use Rattle.definitions.specs.Checks.{termChecks, joinChecks, activeChecks, changeChecks, leaveChecks, loadChecks, arriveChecks}
@@ -12,21 +12,21 @@ use Rattle.definitions.specs.Core.{step}
 use Rattle.tables.proofs.Promises.{Checking}
 
 module _ (id : ℕ) where
-  unfoldable pub joins : (type rate burst : ℕ) → Checking (Join id type rate burst)
+  unfoldable pub joins : (kind rate burst : ℕ) → Checking (Join id kind rate burst)
   unfolding step onJoin joinChecks termChecks
-  joins type rate burst = record {
-    checks = λ s. joinChecks s id type rate burst;
-    made = λ s. updated s id (joining type rate burst) (s .order);
+  joins kind rate burst = record {
+    checks = λ s. joinChecks s id kind rate burst;
+    made = λ s. updated s id (joining kind rate burst) (s .order);
     shut = refl;
     runs = λ s. refl;
     counted = λ s. tt;
   }
 
-  unfoldable pub changes : (type rate burst : ℕ) → Checking (Change id type rate burst)
+  unfoldable pub changes : (kind rate burst : ℕ) → Checking (Change id kind rate burst)
   unfolding step onChange changeChecks activeChecks termChecks
-  changes type rate burst = record {
-    checks = λ s. changeChecks s id type rate burst;
-    made = λ s. updated s id (changed (s .clients id) type rate burst) (orderAfterChange s id type);
+  changes kind rate burst = record {
+    checks = λ s. changeChecks s id kind rate burst;
+    made = λ s. updated s id (changed (s .clients id) kind rate burst) (orderAfterChange s id kind);
     shut = refl;
     runs = λ s. refl;
     counted = λ s. tt;

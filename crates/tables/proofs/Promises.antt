@@ -7,7 +7,7 @@ use mathlib.Core.Bool.{Bool, true, false, cond, not, _&&_}
 use mathlib.Core.List.{List, [], _∷_}
 use native.Mathlib.Omega.{arith}
 use lib.Dec.{T, eqb}
-use Rattle.definitions.specs.declared.Call.{Call}
+use Rattle.definitions.specs.Event.{Event}
 use Rattle.definitions.specs.declared.Answer.the-variants.{Accepted, Refused}
 use Rattle.definitions.specs.State.{State, Core, running, unopened}
 use Rattle.definitions.specs.Checks.{Result, Check, accepted, refused, checked}
@@ -20,7 +20,7 @@ use Rattle.tables.specs.declared.Control.{Control}
 use Rattle.tables.specs.declared.Answered.{Answered}
 use Rattle.tables.specs.Tables.{Tables}
 use Rattle.tables.specs.Meaning.{stateOf, coreOf}
-use Rattle.tables.specs.Invariant.{Shape, Sound-core, Valid}
+use Rattle.tables.specs.Invariant.{Shape, SoundCore, Valid}
 use Rattle.tables.specs.Numbers.{firstFailed, refusal}
 use Rattle.tables.specs.Promise.{Meets}
 
@@ -64,7 +64,7 @@ checks-passed (c ∷ cs) k none = go (c .passed) (c .number) refl k none (λ j. 
     go false n p t e rest = absurd (T-and (not (eqb 0 0)) (numbered cs) (rw e at t) .0)
 
 -- A call other than open: what it checks, what it makes of a state, and that the definitions say so.
-pub record Checking (call : Call) : Type 0 where
+pub record Checking (call : Event) : Type 0 where
   pub checks : State → List Check
   pub made : State → State
   pub shut : step unopened call ≡ refused 19 unopened
@@ -79,7 +79,7 @@ pub coreOf-shut : (c : Control) (t : Tables) → c .opened ≡ false → coreOf 
 unfolding coreOf
 coreOf-shut c t e = rw e
 
-module _ (call : Call) (k : Checking call) (c : Control) (t : Tables) (valid : Valid c t) where
+module _ (call : Event) (k : Checking call) (c : Control) (t : Tables) (valid : Valid c t) where
   s : State
   s = stateOf c t
 
@@ -128,7 +128,7 @@ module _ (call : Call) (k : Checking call) (c : Control) (t : Tables) (valid : V
     unfolding s
     all-passed = checks-passed (k .checks s) (k .counted s) none-failed
 
-    pub sound-before : Sound-core c t
+    pub sound-before : SoundCore c t
     sound-before = valid (opened none)
 
     -- an accepted call: the state after is what the definitions make of the state before, and the tables are laid out right

@@ -4,7 +4,7 @@
 use Prim.Native.Nat.{ℕ}
 use mathlib.Core.Path.{_≡_, refl, sym, ap, ap₂, _∙_}
 use mathlib.Core.Bool.{Bool, true, false}
-use Rattle.definitions.specs.declared.Call.{Call}
+use Rattle.definitions.specs.Event.{Event}
 use Rattle.definitions.specs.declared.Answer.{Answer}
 use Rattle.definitions.specs.declared.Answer.the-variants.{Accepted}
 use Rattle.definitions.specs.State.{Core, unopened, running}
@@ -48,13 +48,13 @@ unfolding CodeValid
 run-valid run = reached-valid (run .reached)
 
 -- the next call is dealt with as the definitions say
-reached-dealing : {t : Trace} {c : Control} {m u : Tables} {call : Call} {r : Answered}
+reached-dealing : {t : Trace} {c : Control} {m u : Tables} {call : Event} {r : Answered}
     → Reached t c m
     → Meets call c m r u
     → dealing call c m r ≡ dealingAt scheduler (callsOf t) call
 unfolding answerAt dealingAt
 reached-dealing {call = call} run m = λ i. record {
-  call = call;
+  event = call;
   answer = (m .answer ∙ ap (λ (x : Core). step x call .answer) (reached-core run)) i;
   pick = ap pickOf (reached-core run) i;
 }
@@ -108,5 +108,5 @@ unfolding NeverWrong CodeDefined lastAnswer callsOf traceOf dealingAt
 never-wrong S wrong run earlier last e f g same =
     wrong .differs (sym same ∙ told ∙ ap₂ (answerAt scheduler) f g)
   where
-    told : last .answer ≡ answerAt scheduler (callsOf earlier) (last .call)
+    told : last .answer ≡ answerAt scheduler (callsOf earlier) (last .event)
     told = ap lastAnswer (sym e ∙ run-defined run .dealt ∙ ap (λ (t : Trace). traceOf scheduler (callsOf t)) e)

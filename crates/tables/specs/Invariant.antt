@@ -38,10 +38,10 @@ pub record Shape (c : Control) (t : Tables) : Type 0 where
   pub placed : (id : ℕ) → id < ids
       → placesOf id order ≡ cond (isIndifferent (kindAt c id)) (ring id (headAt (t .clients) id) (countAt (t .clients) id)) []
 
-pub record Sound-core (c : Control) (t : Tables) : Type 0 where
+pub record SoundCore (c : Control) (t : Tables) : Type 0 where
   pub shape : Shape c t
   pub limits : StateLimits (stateOf c t)
 
 -- an unopened core asks nothing of its tables
 abbrev pub Valid : Control → Tables → Type 0
-Valid c t = c .opened ≡ true → Sound-core c t
+Valid c t = c .opened ≡ true → SoundCore c t

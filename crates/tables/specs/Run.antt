@@ -5,7 +5,7 @@
 use Prim.Native.Nat.{ℕ}
 use mathlib.Core.Path.{_≡_}
 use mathlib.Core.Logic.{_≢_}
-use Rattle.definitions.specs.declared.Call.{Call}
+use Rattle.definitions.specs.Event.{Event}
 use Rattle.definitions.specs.State.{Core, unopened}
 use Rattle.definitions.specs.History.{History, start, _then_, calls, Dealing, Trace, begin, _and_, Scheduler, after, answerAt, traceOf, pickOf, holdingsOf, scheduler}
 use Rattle.definitions.specs.Sameness.{kept, LooksSame}
@@ -20,13 +20,13 @@ use Rattle.tables.specs.Invariant.{Valid}
 use Rattle.tables.specs.Promise.{Meets}
 
 -- what was dealt where a call on control c and tables t gave r
-abbrev pub dealing : Call → Control → Tables → Answered → Dealing
-dealing call c t r = record { call = call; answer = r .answer; pick = pickOf (coreOf c t) }
+abbrev pub dealing : Event → Control → Tables → Answered → Dealing
+dealing call c t r = record { event = call; answer = r .answer; pick = pickOf (coreOf c t) }
 
 -- the trace is that of the calls made, and control and tables are those after the last one
 pub data Reached : Trace → Control → Tables → Type 0 where
   begun : {c : Control} {t : Tables} → coreOf c t ≡ unopened → Reached begin c t
-  called : {trace : Trace} {c : Control} {t u : Tables} {call : Call} {r : Answered}
+  called : {trace : Trace} {c : Control} {t u : Tables} {call : Event} {r : Answered}
       → Reached trace c t
       → Meets call c t r u
       → Reached (trace and dealing call c t r) (r .control) u
@@ -42,7 +42,7 @@ unfoldable pub coreAfter : Run → Core
 coreAfter run = coreOf (run .control) (run .tables)
 
 -- a run with one call more
-abbrev pub further : (run : Run) {call : Call} {r : Answered} {u : Tables} → Meets call (run .control) (run .tables) r u → Run
+abbrev pub further : (run : Run) {call : Event} {r : Answered} {u : Tables} → Meets call (run .control) (run .tables) r u → Run
 further run {call} {r} {u} m = record {
   trace = run .trace and dealing call (run .control) (run .tables) r;
   control = r .control;
@@ -53,7 +53,7 @@ further run {call} {r} {u} m = record {
 -- "A place is a call's position in its history, or the history's end": the run up to there.
 pub data PlaceOf (place : Run) : Run → Type 0 where
   end : PlaceOf place place
-  before : {whole : Run} {call : Call} {r : Answered} {u : Tables} (m : Meets call (whole .control) (whole .tables) r u)
+  before : {whole : Run} {call : Event} {r : Answered} {u : Tables} (m : Meets call (whole .control) (whole .tables) r u)
       → PlaceOf place whole
       → PlaceOf place (further whole m)
 
@@ -76,7 +76,7 @@ CodeValid = (run : Run) → Valid (run .control) (run .tables)
 -- the calls of a trace, without what they got
 unfoldable pub callsOf : Trace → History
 callsOf begin = start
-callsOf (t and d) = callsOf t then d .call
+callsOf (t and d) = callsOf t then d .event
 
 -- Demand 2 for the code: a run is the trace that the definitions give to its calls, and its tables mean the core that they reach.
 pub record Defined (run : Run) : Type 0 where
@@ -98,5 +98,5 @@ NeverWrong =
     (S : Scheduler) (wrong : Differs S) (run : Run) (before : Trace) (last : Dealing)
     → run .trace ≡ before and last
     → callsOf before ≡ wrong .history
-    → last .call ≡ wrong .call
-    → last .answer ≢ answerAt S (wrong .history) (wrong .call)
+    → last .event ≡ wrong .event
+    → last .answer ≢ answerAt S (wrong .history) (wrong .event)

@@ -10,7 +10,7 @@ use lib.Dec.{eqb, ltb}
 use lib.ListN.{length, set, length-set}
 use borrow.Author.Tests.{lt-ltb, ltb-true, leb-true}
 use Rattle.definitions.specs.declared.Packet.{Packet}
-use Rattle.definitions.specs.declared.Call.the-variants.{Arrive}
+use Rattle.definitions.specs.Event.{Arrive}
 use Rattle.definitions.specs.declared.Answer.the-variants.{Accepted, Refused}
 use Rattle.definitions.specs.Sizes.{ids, places, shares}
 use Rattle.definitions.specs.Client.{isIndifferent}
@@ -23,7 +23,7 @@ use Rattle.tables.specs.declared.Control.{Control}
 use Rattle.tables.specs.declared.Answered.{Answered}
 use Rattle.tables.specs.Tables.{Tables, field, levelAt, headAt, countAt}
 use Rattle.tables.specs.Meaning.{kindAt, clientAt, clientsOf, stateOf, withWaiting}
-use Rattle.tables.specs.Invariant.{Shape, Sound-core, Valid}
+use Rattle.tables.specs.Invariant.{Shape, SoundCore, Valid}
 use Rattle.tables.specs.Numbers.{refusal}
 use Rattle.tables.specs.Promise.{Meets}
 use Rattle.tables.proofs.Promises.{refused-with, opened, all-passed, sound-before, accepted-with}
@@ -126,7 +126,7 @@ module _ (c : Control) (t : Tables) (valid : Valid c t) (id : ℕ) (p : Packet) 
     unfolding arrives
     passed = all-passed (Arrive id p) (arrives id p) c t valid none
 
-    pub arrive-sound : Sound-core c t
+    pub arrive-sound : SoundCore c t
     unfolding arrives
     arrive-sound = sound-before (Arrive id p) (arrives id p) c t valid none
 

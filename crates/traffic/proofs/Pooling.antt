@@ -8,7 +8,7 @@ use native.Mathlib.Omega.{arith}
 use lib.Dec.{eqb}
 use lib.ListN.{length, set, length-set}
 use borrow.Author.Tests.{lt-ltb, ltb-true, leb-true}
-use Rattle.definitions.specs.declared.Call.the-variants.{Load}
+use Rattle.definitions.specs.Event.{Load}
 use Rattle.definitions.specs.declared.Answer.the-variants.{Accepted, Refused}
 use Rattle.definitions.specs.Sizes.{ids, poolLimit}
 use Rattle.definitions.specs.Client.{Client, loaded}
@@ -21,7 +21,7 @@ use Rattle.tables.specs.declared.Control.{Control}
 use Rattle.tables.specs.declared.Answered.{Answered}
 use Rattle.tables.specs.Tables.{Tables, tables, field, poolAt, ring}
 use Rattle.tables.specs.Meaning.{kindAt, packetAt, queueAt, clientAt, clientsOf, orderOf, stateOf}
-use Rattle.tables.specs.Invariant.{Shape, Sound-core, Valid}
+use Rattle.tables.specs.Invariant.{Shape, SoundCore, Valid}
 use Rattle.tables.specs.Numbers.{refusal}
 use Rattle.tables.specs.Promise.{Meets}
 use Rattle.tables.proofs.Promises.{refused-with, opened, all-passed, sound-before, accepted-with}
@@ -109,7 +109,7 @@ module _ (c : Control) (t : Tables) (valid : Valid c t) (id dummies : ℕ) where
     unfolding loads
     passed = all-passed (Load id dummies) (loads id dummies) c t valid none
 
-    sound : Sound-core c t
+    sound : SoundCore c t
     unfolding loads
     sound = sound-before (Load id dummies) (loads id dummies) c t valid none
 

@@ -20,7 +20,7 @@ ghost use mathlib.Core.Path.{_≡_};
 ghost use mathlib.Core.List.{List};
 ghost use lib.ListN.{set};
 ghost use Prim.Native.Nat.{ℕ, _+_, _-_, _*_, _%_, _≤_, _<_};
-ghost use Rattle.definitions.specs.declared.Call.the-variants.{Load, Arrive};
+ghost use Rattle.definitions.specs.Event.{Load, Arrive};
 ghost use Rattle.definitions.specs.Sizes.{ids, places, shares};
 ghost use Rattle.definitions.specs.Checks.{loadChecks, arriveChecks};
 ghost use Rattle.tables.specs.Tables.{tables, levelAt, headAt, countAt};

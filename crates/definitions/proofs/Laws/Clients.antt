@@ -6,7 +6,7 @@ use mathlib.Core.Logic.{_≢_}
 use mathlib.Core.Bool.{Bool, true, false, cond}
 use lib.Dec.{eqb}
 use borrow.Author.Tests.{eq-eqb, ne-eqb}
-use Rattle.definitions.specs.Sizes.{indifferentType, privateType}
+use Rattle.definitions.specs.Sizes.{indifferentKind, privateKind}
 use Rattle.definitions.specs.Client.{Kind, absent, indifferent, private, kindOf, isActive, isIndifferent, isPrivate, sameKind, Client, spent}
 use Rattle.definitions.specs.State.{put}
 use Rattle.definitions.specs.Tick.{Rule, rule1, rule2, rule3, clientsAfter}
@@ -86,21 +86,21 @@ sameKind-true private private e = refl
 
 -- the kind that a type gives
 
-pub kindOf-indifferent : (type : ℕ) → isIndifferent (kindOf type) ≡ eqb type indifferentType
+pub kindOf-indifferent : (kind : ℕ) → isIndifferent (kindOf kind) ≡ eqb kind indifferentKind
 unfolding kindOf
-kindOf-indifferent type = go (eqb type indifferentType) (eqb type privateType)
+kindOf-indifferent kind = go (eqb kind indifferentKind) (eqb kind privateKind)
   where
     go : (a b : Bool) → isIndifferent (cond a indifferent (cond b private absent)) ≡ a
     go true b = refl
     go false true = refl
     go false false = refl
 
-pub kindOf-private : (type : ℕ) → isPrivate (kindOf type) ≡ eqb type privateType
-unfolding kindOf indifferentType privateType
-kindOf-private type =
-    eqb-cases (λ a. isPrivate (cond a indifferent (cond (eqb type 2) private absent)) ≡ eqb type 2) type 1
+pub kindOf-private : (kind : ℕ) → isPrivate (kindOf kind) ≡ eqb kind privateKind
+unfolding kindOf indifferentKind privateKind
+kindOf-private kind =
+    eqb-cases (λ a. isPrivate (cond a indifferent (cond (eqb kind 2) private absent)) ≡ eqb kind 2) kind 1
     (λ e. rw e)
-    (λ ne. go (eqb type 2))
+    (λ ne. go (eqb kind 2))
   where
     go : (b : Bool) → isPrivate (cond b private absent) ≡ b
     go true = refl

@@ -33,9 +33,9 @@ ordered-inactive c e = go (c .kind) e
     go indifferent f = absurd (true≢false f)
     go private f = refl
 
-ordered-joining : (type rate burst : ℕ) → ordered (joining type rate burst) ≡ 0
+ordered-joining : (kind rate burst : ℕ) → ordered (joining kind rate burst) ≡ 0
 unfolding ordered joining
-ordered-joining type rate burst = cond-same (isIndifferent (kindOf type)) 0
+ordered-joining kind rate burst = cond-same (isIndifferent (kindOf kind)) 0
 
 -- what is asked of a client and an order that are put in place
 record Update (s : State) (id : ℕ) (c : Client) (order : List ℕ) : Type 0 where
@@ -77,37 +77,37 @@ module _ (s : State) (known : StateLimits s) where
     old : Parts (s .clients id)
     old = limits-parts (s .clients id) (known .clientLimits id)
 
-    join-update : (type rate burst : ℕ)
-        → Passed (joinChecks s id type rate burst)
-        → Update s id (joining type rate burst) (s .order)
+    join-update : (kind rate burst : ℕ)
+        → Passed (joinChecks s id kind rate burst)
+        → Update s id (joining kind rate burst) (s .order)
     unfolding joinChecks termChecks joining
-    join-update type rate burst h = record {
+    join-update kind rate burst h = record {
       below = ltb-true id ids (h .0);
-      parts = joining-parts type rate burst (terms-passed (s .threshold) (rates (s .clients)) type rate burst (h .1 .1));
+      parts = joining-parts kind rate burst (terms-passed (s .threshold) (rates (s .clients)) kind rate burst (h .1 .1));
       threshold = omega (
         arith,
-        held-high (joining type rate burst),
+        held-high (joining kind rate burst),
         leb-true (rates (s .clients) + rate) (s .threshold) (h .1 .1 .1 .1 .1 .0),
       );
       own = known .orderWhole id
           ∙ ordered-inactive (s .clients id) (not-true (isActive (s .clients id .kind)) (h .1 .0))
-          ∙ sym (ordered-joining type rate burst);
+          ∙ sym (ordered-joining kind rate burst);
       others = λ j other. refl;
     }
 
-    pub join-limits : (type rate burst : ℕ) → CoreLimits (onJoin s id type rate burst .core)
+    pub join-limits : (kind rate burst : ℕ) → CoreLimits (onJoin s id kind rate burst .core)
     unfolding onJoin
-    join-limits type rate burst =
-        call-limits (joinChecks s id type rate burst) id (joining type rate burst) (s .order) (join-update type rate burst)
+    join-limits kind rate burst =
+        call-limits (joinChecks s id kind rate burst) id (joining kind rate burst) (s .order) (join-update kind rate burst)
 
-    change-update : (type rate burst : ℕ)
-        → Passed (changeChecks s id type rate burst)
-        → Update s id (changed (s .clients id) type rate burst) (orderAfterChange s id type)
+    change-update : (kind rate burst : ℕ)
+        → Passed (changeChecks s id kind rate burst)
+        → Update s id (changed (s .clients id) kind rate burst) (orderAfterChange s id kind)
     unfolding changeChecks activeChecks termChecks changed orderAfterChange joining retuned ordered
-    change-update type rate burst h = go (sameKind (s .clients id .kind) (kindOf type)) refl
+    change-update kind rate burst h = go (sameKind (s .clients id .kind) (kindOf kind)) refl
       where
-        terms : Terms (kindOf type) rate burst
-        terms = terms-passed (s .threshold) (rates (s .clients) - s .clients id .rate) type rate burst (h .1 .1)
+        terms : Terms (kindOf kind) rate burst
+        terms = terms-passed (s .threshold) (rates (s .clients) - s .clients id .rate) kind rate burst (h .1 .1)
 
         traded : (d : Client) → d .rate ≡ rate → rates (s .clients) + held d ≤ s .threshold + held (s .clients id)
         traded d e =
@@ -119,32 +119,32 @@ module _ (s : State) (known : StateLimits s) where
             )
 
         go : (b : Bool)
-            → sameKind (s .clients id .kind) (kindOf type) ≡ b
+            → sameKind (s .clients id .kind) (kindOf kind) ≡ b
             → Update s id
-            (cond b (retuned (s .clients id) rate burst) (joining type rate burst))
+            (cond b (retuned (s .clients id) rate burst) (joining kind rate burst))
             (cond b (s .order) (without id (s .order)))
         go true e = record {
           below = ltb-true id ids (h .0);
-          parts = retuned-parts (s .clients id) old rate burst (rw (sameKind-true (s .clients id .kind) (kindOf type) e) terms);
+          parts = retuned-parts (s .clients id) old rate burst (rw (sameKind-true (s .clients id .kind) (kindOf kind) e) terms);
           threshold = traded (retuned (s .clients id) rate burst) refl;
           own = known .orderWhole id;
           others = λ j other. refl;
         }
         go false e = record {
           below = ltb-true id ids (h .0);
-          parts = joining-parts type rate burst terms;
-          threshold = traded (joining type rate burst) refl;
-          own = standing-without-same id (s .order) ∙ sym (ordered-joining type rate burst);
+          parts = joining-parts kind rate burst terms;
+          threshold = traded (joining kind rate burst) refl;
+          own = standing-without-same id (s .order) ∙ sym (ordered-joining kind rate burst);
           others = λ j other. standing-without-other id j other (s .order);
         }
 
-    pub change-limits : (type rate burst : ℕ) → CoreLimits (onChange s id type rate burst .core)
+    pub change-limits : (kind rate burst : ℕ) → CoreLimits (onChange s id kind rate burst .core)
     unfolding onChange
-    change-limits type rate burst =
-        call-limits (changeChecks s id type rate burst) id
-        (changed (s .clients id) type rate burst)
-        (orderAfterChange s id type)
-        (change-update type rate burst)
+    change-limits kind rate burst =
+        call-limits (changeChecks s id kind rate burst) id
+        (changed (s .clients id) kind rate burst)
+        (orderAfterChange s id kind)
+        (change-update kind rate burst)
 
     leave-update : Passed (leaveChecks s id) → Update s id nobody (without id (s .order))
     unfolding leaveChecks activeChecks held ordered

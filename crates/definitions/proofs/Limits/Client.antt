@@ -9,7 +9,7 @@ use lib.Dec.{eqb}
 use lib.ListN.{length, length-append}
 use borrow.Author.Tests.{eqb-true}
 use Rattle.definitions.specs.declared.Packet.{Packet}
-use Rattle.definitions.specs.Sizes.{places, poolLimit, shares, burstLimit, shortest, longest, indifferentType, privateType}
+use Rattle.definitions.specs.Sizes.{places, poolLimit, shares, burstLimit, shortest, longest, indifferentKind, privateKind}
 use Rattle.definitions.specs.Client.{Kind, absent, indifferent, private, kindOf, isActive, isIndifferent, Client, empty, nobody, joining, retuned, loaded, queued, spent, refilled}
 use Rattle.definitions.specs.Checks.{within, burstFits, termChecks}
 use Rattle.definitions.specs.Limits.{LengthsFit, LimitsBy, ClientLimits}
@@ -129,13 +129,13 @@ burst-passed burst true b e f = within-true 1 burstLimit burst f
 burst-passed burst false true e f = eqb-true burst 0 f
 burst-passed burst false false e f = absurd (false≢true e)
 
-pub terms-passed : (threshold others type rate burst : ℕ)
-    → Passed (termChecks threshold others type rate burst)
-    → Terms (kindOf type) rate burst
+pub terms-passed : (threshold others kind rate burst : ℕ)
+    → Passed (termChecks threshold others kind rate burst)
+    → Terms (kindOf kind) rate burst
 unfolding termChecks kindOf burstFits
-terms-passed threshold others type rate burst h = record {
-  rates = rate-passed (kindOf type) rate (h .0) (within-true 1 shares rate (h .1 .0));
-  bursts = burst-passed burst (eqb type indifferentType) (eqb type privateType) (h .0) (h .1 .1 .0);
+terms-passed threshold others kind rate burst h = record {
+  rates = rate-passed (kindOf kind) rate (h .0) (within-true 1 shares rate (h .1 .0));
+  bursts = burst-passed burst (eqb kind indifferentKind) (eqb kind privateKind) (h .0) (h .1 .1 .0);
 }
 
 -- The parts after each thing that is done to a client.
@@ -173,14 +173,14 @@ queue-push queue p fits room own = (simp length-append (omega arith), go queue (
     go [] f = (own .0, own .1, tt)
     go (x ∷ xs) f = (f .0, f .1, go xs (f .2))
 
-pub joining-parts : (type rate burst : ℕ) → Terms (kindOf type) rate burst → Parts (joining type rate burst)
+pub joining-parts : (kind rate burst : ℕ) → Terms (kindOf kind) rate burst → Parts (joining kind rate burst)
 unfolding joining
-joining-parts type rate burst terms = record {
+joining-parts kind rate burst terms = record {
   rates = terms .rates;
   bursts = terms .bursts;
   levels = omega arith;
-  pools = pool-none (kindOf type);
-  queues = queue-none (kindOf type);
+  pools = pool-none (kindOf kind);
+  queues = queue-none (kindOf kind);
 }
 
 module _ (c : Client) (parts : Parts c) where

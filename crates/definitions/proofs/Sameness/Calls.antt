@@ -58,14 +58,14 @@ module _ (chosen : ℕ) where
       done = accepted (fresh threshold discipline seed)
 
   module _ (s : State) (id : ℕ) where
-    pub join-alike : (type rate burst : ℕ) → Alike chosen (onJoin s id type rate burst) (onJoin (erase chosen s) id type rate burst)
+    pub join-alike : (kind rate burst : ℕ) → Alike chosen (onJoin s id kind rate burst) (onJoin (erase chosen s) id kind rate burst)
     unfolding onJoin erase hide hideIf joinChecks rates activeRate
-    join-alike type rate burst =
-        checked-alike s (joinChecks s id type rate burst) (joinChecks (erase chosen s) id type rate burst)
-        (updated s id (joining type rate burst) (s .order))
-        (updated (erase chosen s) id (joining type rate burst) (s .order))
+    join-alike kind rate burst =
+        checked-alike s (joinChecks s id kind rate burst) (joinChecks (erase chosen s) id kind rate burst)
+        (updated s id (joining kind rate burst) (s .order))
+        (updated (erase chosen s) id (joining kind rate burst) (s .order))
         refl
-        (updated-alike s id (joining type rate burst) (joining type rate burst) (s .order) (s .order) refl refl)
+        (updated-alike s id (joining kind rate burst) (joining kind rate burst) (s .order) (s .order) refl refl)
 
     pub leave-alike : Alike chosen (onLeave s id) (onLeave (erase chosen s) id)
     unfolding onLeave erase hide hideIf leaveChecks activeChecks
@@ -77,14 +77,14 @@ module _ (chosen : ℕ) where
         (updated-alike s id nobody nobody (without id (s .order)) (without id (s .order)) refl refl)
 
     -- a client keeps its queue and pool only where it keeps its kind, and then it is hidden before and after, or neither
-    hide-changed : (type rate burst : ℕ) (c : Client)
-        → hide chosen id (changed c type rate burst) ≡ hide chosen id (changed (hide chosen id c) type rate burst)
+    hide-changed : (kind rate burst : ℕ) (c : Client)
+        → hide chosen id (changed c kind rate burst) ≡ hide chosen id (changed (hide chosen id c) kind rate burst)
     unfolding hide hidden hideIf changed retuned
-    hide-changed type rate burst c = go (sameKind (c .kind) (kindOf type)) (isPrivate (c .kind) && not (eqb id chosen))
+    hide-changed kind rate burst c = go (sameKind (c .kind) (kindOf kind)) (isPrivate (c .kind) && not (eqb id chosen))
       where
         go : (same b : Bool)
-            → hide chosen id (cond same (retuned c rate burst) (joining type rate burst))
-            ≡ hide chosen id (cond same (retuned (hideIf (isPrivate (c .kind) && not (eqb id chosen)) c) rate burst) (joining type rate burst))
+            → hide chosen id (cond same (retuned c rate burst) (joining kind rate burst))
+            ≡ hide chosen id (cond same (retuned (hideIf (isPrivate (c .kind) && not (eqb id chosen)) c) rate burst) (joining kind rate burst))
         go true b = hide-step chosen id (λ d. retuned d rate burst) (λ d. refl) kept c
           where
             kept : (x : Bool) (d : Client) → hideIf x (retuned d rate burst) ≡ hideIf x (retuned (hideIf x d) rate burst)
@@ -92,16 +92,16 @@ module _ (chosen : ℕ) where
             kept false d = refl
         go false b = refl
 
-    pub change-alike : (type rate burst : ℕ)
-        → Alike chosen (onChange s id type rate burst) (onChange (erase chosen s) id type rate burst)
+    pub change-alike : (kind rate burst : ℕ)
+        → Alike chosen (onChange s id kind rate burst) (onChange (erase chosen s) id kind rate burst)
     unfolding onChange erase changeChecks activeChecks orderAfterChange rates activeRate hide hideIf
-    change-alike type rate burst =
-        checked-alike s (changeChecks s id type rate burst) (changeChecks (erase chosen s) id type rate burst)
-        (updated s id (changed (s .clients id) type rate burst) (orderAfterChange s id type))
-        (updated (erase chosen s) id (changed (hide chosen id (s .clients id)) type rate burst) (orderAfterChange s id type))
+    change-alike kind rate burst =
+        checked-alike s (changeChecks s id kind rate burst) (changeChecks (erase chosen s) id kind rate burst)
+        (updated s id (changed (s .clients id) kind rate burst) (orderAfterChange s id kind))
+        (updated (erase chosen s) id (changed (hide chosen id (s .clients id)) kind rate burst) (orderAfterChange s id kind))
         refl
-        (updated-alike s id (changed (s .clients id) type rate burst) (changed (hide chosen id (s .clients id)) type rate burst)
-        (orderAfterChange s id type) (orderAfterChange s id type) (hide-changed type rate burst (s .clients id)) refl)
+        (updated-alike s id (changed (s .clients id) kind rate burst) (changed (hide chosen id (s .clients id)) kind rate burst)
+        (orderAfterChange s id kind) (orderAfterChange s id kind) (hide-changed kind rate burst (s .clients id)) refl)
 
     -- a load or an arrival of a client that is not hidden
     module _ (seen : hidden chosen id (s .clients id) ≡ false) where

@@ -6,8 +6,7 @@ use mathlib.Core.Path.{_≡_, refl, sym, ap, ap₂, _∙_}
 use mathlib.Core.Bool.{Bool, true, false, cond, not, _&&_}
 use mathlib.Core.List.{List, _∷_}
 use lib.Dec.{eqb}
-use Rattle.definitions.specs.declared.Call.{Call}
-use Rattle.definitions.specs.declared.Call.the-variants.{Open, Join, Change, Leave, Load, Arrive, Tick}
+use Rattle.definitions.specs.Event.{Event, Open, Join, Change, Leave, Load, Arrive, Tick}
 use Rattle.definitions.specs.Client.{Client, Kind, absent, indifferent, private, isIndifferent, isPrivate}
 use Rattle.definitions.specs.State.{Core, unopened, running}
 use Rattle.definitions.specs.Answers.{isDeparture}
@@ -24,7 +23,7 @@ use Rattle.definitions.proofs.Sameness.Kinds.{trace, dealt, holdsIndiff
 
 module _ (chosen : ℕ) where
   -- the client that a load or an arrival names is not hidden
-  abbrev Seen : Core → Call → Type 0
+  abbrev Seen : Core → Event → Type 0
   Seen core (Open t d v) = Unit {0}
   Seen core (Join j k r b) = Unit {0}
   Seen core (Change j k r b) = Unit {0}
@@ -36,14 +35,14 @@ module _ (chosen : ℕ) where
   -- ---- one call
 
   -- a call on a core and on its erasure: cores that are erased alike and, of any call but tick, the same answer
-  pub record StepAlike (x y : Core) (c : Call) : Type 0 where
+  pub record StepAlike (x y : Core) (c : Event) : Type 0 where
     pub cores : eraseCore chosen (step x c .core) ≡ eraseCore chosen (step y c .core)
     pub answers : isTick c ≡ false → step x c .answer ≡ step y c .answer
 
-  both : {x y : Core} (c : Call) → Alike chosen (step x c) (step y c) → StepAlike x y c
+  both : {x y : Core} (c : Event) → Alike chosen (step x c) (step y c) → StepAlike x y c
   both c a = record { cores = a .cores; answers = λ n. a .answers }
 
-  step-erased : (core : Core) (c : Call) → Seen core c → StepAlike core (eraseCore chosen core) c
+  step-erased : (core : Core) (c : Event) → Seen core c → StepAlike core (eraseCore chosen core) c
   unfolding step eraseCore clientOf isTick
   step-erased unopened c e = record { cores = refl; answers = λ n. refl }
   step-erased (running s) (Open t d v) e = both (Open t d v) (open-alike chosen (running s) t d v)
@@ -55,7 +54,7 @@ module _ (chosen : ℕ) where
   step-erased (running s) Tick e = record { cores = tick-cores chosen s; answers = λ n. true-false refl n }
 
   -- the same of two cores that are erased alike
-  step-alike : (x y : Core) (c : Call) → eraseCore chosen x ≡ eraseCore chosen y → Seen x c → Seen y c → StepAlike x y c
+  step-alike : (x y : Core) (c : Event) → eraseCore chosen x ≡ eraseCore chosen y → Seen x c → Seen y c → StepAlike x y c
   step-alike x y c e sx sy = record {
     cores =
         step-erased x c sx .cores
@@ -87,7 +86,7 @@ module _ (chosen : ℕ) where
   alike-indifferent {h} {k} a id =
       indifferent-held id h ∙ ap isIndifferent (alike-kind a id) ∙ sym (indifferent-held id k)
 
-  alike-struck : {h k : History} → AlikeAt h k → (c : Call) → isStruck chosen (trace h) c ≡ isStruck chosen (trace k) c
+  alike-struck : {h k : History} → AlikeAt h k → (c : Event) → isStruck chosen (trace h) c ≡ isStruck chosen (trace k) c
   unfolding isStruck
   alike-struck a (Open t d v) = refl
   alike-struck a (Join j k r b) = refl
@@ -109,7 +108,7 @@ module _ (chosen : ℕ) where
   )
 
   -- a struck-out call changes nothing that is not erased
-  struck-erased : (h : History) (c : Call) → isStruck chosen (trace h) c ≡ true
+  struck-erased : (h : History) (c : Event) → isStruck chosen (trace h) c ≡ true
       → eraseCore chosen (step (after scheduler h) c .core) ≡ eraseCore chosen (after scheduler h)
   unfolding isStruck step eraseCore clientOf holdsIndifferent
   struck-erased h (Open t d v) e = true-false e refl
@@ -142,7 +141,7 @@ module _ (chosen : ℕ) where
       go private false e = e
 
   -- a kept load or arrival names a client that is not hidden
-  kept-seen : (h : History) (c : Call) → isStruck chosen (trace h) c ≡ false → Seen (after scheduler h) c
+  kept-seen : (h : History) (c : Event) → isStruck chosen (trace h) c ≡ false → Seen (after scheduler h) c
   unfolding isStruck holdsIndifferent
   kept-seen h (Open t d v) e = tt
   kept-seen h (Join j k r b) e = tt
@@ -181,7 +180,7 @@ module _ (chosen : ℕ) where
 
   -- ---- what two histories that are alike show
 
-  pub alike-answer : {h k : History} → AlikeAt h k → (c : Call) → isStruck chosen (trace h) c ≡ false → isTick c ≡ false
+  pub alike-answer : {h k : History} → AlikeAt h k → (c : Event) → isStruck chosen (trace h) c ≡ false → isTick c ≡ false
       → answerAt scheduler h c ≡ answerAt scheduler k c
   unfolding answerAt
   alike-answer {h} {k} a c e n =
@@ -242,10 +241,10 @@ module _ (chosen : ℕ) where
 
   -- What is logged respects erasure: a struck-out call is not logged, and a kept one is logged alike.
   pub record Logged {A : Type 0} (which : Trace → Dealing → Bool) (shows : Dealing → A) : Type 0 where
-    pub struckOut : (h : History) (c : Call) → isStruck chosen (trace h) c ≡ true → which (trace h) (dealt h c) ≡ false
-    pub which-alike : {h k : History} → AlikeAt h k → (c : Call) → isStruck chosen (trace h) c ≡ false
+    pub struckOut : (h : History) (c : Event) → isStruck chosen (trace h) c ≡ true → which (trace h) (dealt h c) ≡ false
+    pub which-alike : {h k : History} → AlikeAt h k → (c : Event) → isStruck chosen (trace h) c ≡ false
         → which (trace h) (dealt h c) ≡ which (trace k) (dealt k c)
-    pub shows-alike : {h k : History} → AlikeAt h k → (c : Call) → isStruck chosen (trace h) c ≡ false
+    pub shows-alike : {h k : History} → AlikeAt h k → (c : Event) → isStruck chosen (trace h) c ≡ false
         → which (trace h) (dealt h c) ≡ true
         → shows (dealt h c) ≡ shows (dealt k c)
 

@@ -5,9 +5,8 @@ use mathlib.Core.Path.{_≡_, refl, sym, ap, _∙_}
 use mathlib.Core.Bool.{Bool, true, false, cond}
 use mathlib.Core.List.{List}
 use lib.Dec.{eqb}
-use Rattle.definitions.specs.declared.Call.{Call}
-use Rattle.definitions.specs.declared.Call.the-variants.{Open, Join, Change, Leave, Load, Arrive, Tick}
-use Rattle.definitions.specs.Sizes.{indifferentType}
+use Rattle.definitions.specs.Event.{Event, Open, Join, Change, Leave, Load, Arrive, Tick}
+use Rattle.definitions.specs.Sizes.{indifferentKind}
 use Rattle.definitions.specs.Client.{Client, isIndifferent, kindOf, sameKind, nobody, joining, retuned, changed, loaded, queued, spent, refilled}
 use Rattle.definitions.specs.State.{State, Core, unopened, running, fresh, put, without}
 use Rattle.definitions.specs.Answers.{isAccepted}
@@ -25,7 +24,7 @@ use Rattle.definitions.proofs.Laws.Clients.{put-keeps, sent-keeps, same
 abbrev pub trace : History → Trace
 trace h = traceOf scheduler h
 
-abbrev pub dealt : History → Call → Dealing
+abbrev pub dealt : History → Event → Dealing
 dealt h c = dealingAt scheduler h c
 
 -- whether an id is indifferent in a core
@@ -33,12 +32,12 @@ unfoldable pub holdsIndifferent : ℕ → Core → Bool
 holdsIndifferent id core = isIndifferent (clientOf core id .kind)
 
 -- what the paper reads off a call and its answer, and what the core holds after it
-abbrev Told : ℕ → Call → Bool → Result → Type 0
+abbrev Told : ℕ → Event → Bool → Result → Type 0
 Told id c was r = holdsIndifferent id (r .core) ≡ cond (isAccepted (r .answer)) (indifferentBy id c was) was
 
 module _ (id : ℕ) (s : State) where
   -- a checked call: a refusal changes nothing, so what is left is the call when accepted
-  told-checked : (c : Call) (cs : List Check) (t : State)
+  told-checked : (c : Event) (cs : List Check) (t : State)
       → isIndifferent (t .clients id .kind) ≡ indifferentBy id c (isIndifferent (s .clients id .kind))
       → Told id c (isIndifferent (s .clients id .kind)) (checked cs (running s) (accepted t))
   unfolding holdsIndifferent clientOf isAccepted
@@ -54,20 +53,20 @@ module _ (id : ℕ) (s : State) where
       go true = refl
       go false = refl
 
-  changed-indifferent : (c : Client) (type rate burst : ℕ) → isIndifferent (changed c type rate burst .kind) ≡ eqb type indifferentType
+  changed-indifferent : (c : Client) (kind rate burst : ℕ) → isIndifferent (changed c kind rate burst .kind) ≡ eqb kind indifferentKind
   unfolding changed retuned joining
-  changed-indifferent c type rate burst = go (sameKind (c .kind) (kindOf type)) refl ∙ kindOf-indifferent type
+  changed-indifferent c kind rate burst = go (sameKind (c .kind) (kindOf kind)) refl ∙ kindOf-indifferent kind
     where
-      go : (b : Bool) → sameKind (c .kind) (kindOf type) ≡ b
-          → isIndifferent ((cond b (retuned c rate burst) (joining type rate burst)) .kind) ≡ isIndifferent (kindOf type)
-      go true e = ap isIndifferent (sameKind-true (c .kind) (kindOf type) e)
+      go : (b : Bool) → sameKind (c .kind) (kindOf kind) ≡ b
+          → isIndifferent ((cond b (retuned c rate burst) (joining kind rate burst)) .kind) ≡ isIndifferent (kindOf kind)
+      go true e = ap isIndifferent (sameKind-true (c .kind) (kindOf kind) e)
       go false e = refl
 
   tick-kind : slotted s (turn s) .clients id .kind ≡ s .clients id .kind
   unfolding slotted refillAll refilled spent
   tick-kind = sent-keeps (λ (c : Client). c .kind) (λ c. refl) (turn s .rule) (turn s .id) (s .clients) id
 
-  told-running : (c : Call) → Told id c (isIndifferent (s .clients id .kind)) (step (running s) c)
+  told-running : (c : Event) → Told id c (isIndifferent (s .clients id .kind)) (step (running s) c)
   unfolding step onOpen onJoin onChange onLeave onLoad onArrive onTick updated indifferentBy joining loaded queued fresh
       holdsIndifferent clientOf isAccepted
   told-running (Open t d v) = told-checked (Open t d v) (openChecks t d v) (fresh t d v) refl
@@ -87,7 +86,7 @@ module _ (id : ℕ) (s : State) where
       (ap isIndifferent (put-keeps (λ (c : Client). c .kind) (s .clients) j (queued (s .clients j) p) refl id))
   told-running Tick = ap isIndifferent tick-kind
 
-told : (id : ℕ) (core : Core) (c : Call) → Told id c (holdsIndifferent id core) (step core c)
+told : (id : ℕ) (core : Core) (c : Event) → Told id c (holdsIndifferent id core) (step core c)
 unfolding holdsIndifferent clientOf step onOpen isAccepted fresh indifferentBy
 told id (running s) c = told-running id s c
 told id unopened (Open t d v) =

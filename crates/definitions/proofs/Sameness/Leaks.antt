@@ -5,9 +5,9 @@ use native.Mathlib.Omega.{arith}
 use mathlib.Core.Path.{_≡_, refl, ap}
 use mathlib.Core.List.{List, [], _∷_}
 use lib.ListN.{getD}
-use Rattle.definitions.specs.declared.Call.the-variants.{Open, Join, Change, Arrive, Tick}
+use Rattle.definitions.specs.Event.{Open, Join, Change, Arrive, Tick}
 use Rattle.definitions.specs.declared.Answer.{Answer}
-use Rattle.definitions.specs.Sizes.{indifferentType, privateType}
+use Rattle.definitions.specs.Sizes.{indifferentKind, privateKind}
 use Rattle.definitions.specs.Answers.{shown}
 use Rattle.definitions.specs.History.{History, start, _then_, end, Pick, noSlot, byRule1, byRule2, byRule3, after, answerAt, dealingAt, traceOf}
 use Rattle.definitions.specs.Sameness.{isTick, names, indifferentBy, indifferentAt, isStruck, kept, log, departure, Sameness}
@@ -17,7 +17,7 @@ use Rattle.definitions.proofs.Everything.{everything}
 
 -- two private clients, and what the second may do unseen
 quiet : History
-quiet = start then Open 1024 0 1 then Join 2 privateType 300 0 then Join 5 privateType 100 0
+quiet = start then Open 1024 0 1 then Join 2 privateKind 300 0 then Join 5 privateKind 100 0
 
 busy : ℕ → History
 busy zero = quiet
@@ -68,8 +68,8 @@ store-leaks claim =
 queue-leaks : Sameness queueOverChange → ⊥
 unfolding computed withChange changeKeeping queueKept orderKept
 queue-leaks claim =
-    let H = quiet then Change 5 indifferentType 100 1 then Tick in
-    let K = busy 1 then Change 5 indifferentType 100 1 then Tick in
+    let H = quiet then Change 5 indifferentKind 100 1 then Tick in
+    let K = busy 1 then Change 5 indifferentKind 100 1 then Tick in
     let told : _≡_ {A = ℕ} 2 101 = ap latestPick (claim 2 H K refl H K end end refl .slots) in
     omega arith
 

@@ -5,8 +5,7 @@ use mathlib.Core.Path.{_≡_, refl, sym, ap, ap₂, _∙_}
 use mathlib.Core.Bool.{Bool, true, false, cond}
 use mathlib.Core.List.{List, [], _∷_}
 use lib.Dec.{eqb}
-use Rattle.definitions.specs.declared.Call.{Call}
-use Rattle.definitions.specs.declared.Call.the-variants.{Open, Join, Change, Leave, Load, Arrive, Tick}
+use Rattle.definitions.specs.Event.{Event, Open, Join, Change, Leave, Load, Arrive, Tick}
 use Rattle.definitions.specs.declared.Answer.{Answer}
 use Rattle.definitions.specs.Client.{Client, kindOf, sameKind, nobody, joining, retuned, changed, loaded, queued, spent, refilled}
 use Rattle.definitions.specs.State.{State, Core, unopened, running, fresh, put, without}
@@ -61,19 +60,19 @@ checked-alike s cs t u e =
     (λ n. record { answers = refl; cores = refl })
     (record { answers = refl; cores = ap running e })
 
-changed-sketched : (c : Client) (type rate burst : ℕ)
-    → sketched (changed c type rate burst) ≡ sketched (changed (sketched c) type rate burst)
+changed-sketched : (c : Client) (kind rate burst : ℕ)
+    → sketched (changed c kind rate burst) ≡ sketched (changed (sketched c) kind rate burst)
 unfolding sketched changed retuned
-changed-sketched c type rate burst = go (sameKind (c .kind) (kindOf type))
+changed-sketched c kind rate burst = go (sameKind (c .kind) (kindOf kind))
   where
     go : (b : Bool)
-        → sketched (cond b (retuned c rate burst) (joining type rate burst))
-        ≡ sketched (cond b (retuned (sketched c) rate burst) (joining type rate burst))
+        → sketched (cond b (retuned c rate burst) (joining kind rate burst))
+        ≡ sketched (cond b (retuned (sketched c) rate burst) (joining kind rate burst))
     go true = refl
     go false = refl
 
 -- an open, join, change or leave on a core and on its outline
-setting-alike : (core : Core) (c : Call) → isSetting c ≡ true → Alike (step core c) (step (outlineCore core) c)
+setting-alike : (core : Core) (c : Event) → isSetting c ≡ true → Alike (step core c) (step (outlineCore core) c)
 unfolding step outlineCore outline sketched isSetting onOpen onJoin onChange onLeave joinChecks changeChecks leaveChecks activeChecks
     rates activeRate orderAfterChange
 setting-alike unopened c e = record { answers = refl; cores = refl }
@@ -97,7 +96,7 @@ setting-alike (running s) (Arrive j p) e = true-false e refl
 setting-alike (running s) Tick e = true-false e refl
 
 -- any other call keeps the outline
-other-kept : (core : Core) (c : Call) → isSetting c ≡ false → outlineCore (step core c .core) ≡ outlineCore core
+other-kept : (core : Core) (c : Event) → isSetting c ≡ false → outlineCore (step core c .core) ≡ outlineCore core
 unfolding step outlineCore isSetting onLoad onArrive onTick updated loaded queued slotted refillAll refilled spent sketched
 other-kept unopened (Open t d v) e = true-false refl e
 other-kept unopened (Join j k r b) e = refl

@@ -7,8 +7,7 @@ use mathlib.Core.Path.{_≡_, refl, sym, ap, ap₂, _∙_}
 use mathlib.Core.Bool.{Bool, true, false, cond, not, _&&_, _||_, and-true, and-false}
 use lib.Dec.{eqb}
 use borrow.Author.Tests.{eqb-true}
-use Rattle.definitions.specs.declared.Call.{Call}
-use Rattle.definitions.specs.declared.Call.the-variants.{Open, Join, Change, Leave, Load, Arrive, Tick}
+use Rattle.definitions.specs.Event.{Event, Open, Join, Change, Leave, Load, Arrive, Tick}
 use Rattle.definitions.specs.declared.Answer.{Answer}
 use Rattle.definitions.specs.Client.{Client}
 use Rattle.definitions.specs.Answers.{number, isDeparture}
@@ -47,7 +46,7 @@ module _ (chosen : ℕ) where
 
   -- ---- a client that is watched where it is the chosen one or indifferent
 
-  not-tick-struck : (h : History) (c : Call) → isStruck chosen (trace h) c ≡ true → isTick c ≡ false
+  not-tick-struck : (h : History) (c : Event) → isStruck chosen (trace h) c ≡ true → isTick c ≡ false
   unfolding isStruck isTick
   not-tick-struck h (Open t d v) e = refl
   not-tick-struck h (Join j k r b) e = refl
@@ -57,7 +56,7 @@ module _ (chosen : ℕ) where
   not-tick-struck h (Arrive j p) e = refl
   not-tick-struck h Tick e = sym e
 
-  not-tick-setting : (c : Call) → isSetting c ≡ true → isTick c ≡ false
+  not-tick-setting : (c : Event) → isSetting c ≡ true → isTick c ≡ false
   unfolding isSetting isTick
   not-tick-setting (Open t d v) e = refl
   not-tick-setting (Join j k r b) e = refl
@@ -68,7 +67,7 @@ module _ (chosen : ℕ) where
   not-tick-setting Tick e = sym e
 
   module _ (id : ℕ) where
-    not-tick-named : (c : Call) → names id c ≡ true → isTick c ≡ false
+    not-tick-named : (c : Event) → names id c ≡ true → isTick c ≡ false
     unfolding names isTick
     not-tick-named (Open t d v) e = refl
     not-tick-named (Join j k r b) e = refl
@@ -90,7 +89,7 @@ module _ (chosen : ℕ) where
         go false q = refl
 
     -- a struck-out call does not name it
-    struck-names : (h : History) (c : Call) → Watched h → isStruck chosen (trace h) c ≡ true → names id c ≡ false
+    struck-names : (h : History) (c : Event) → Watched h → isStruck chosen (trace h) c ≡ true → names id c ≡ false
     unfolding isStruck names
     struck-names h (Open t d v) w e = refl
     struck-names h (Join j k r b) w e = true-false e refl
@@ -103,7 +102,7 @@ module _ (chosen : ℕ) where
     module _ (when : Trace → Bool) (steady : (h k : History) → AlikeAt chosen h k → when (trace h) ≡ when (trace k))
         (watched : (h : History) → when (trace h) ≡ true → Watched h) where
       -- a struck-out call is not logged where it would have to name the client
-      not-named : (h : History) (c : Call) (more : Bool) → isStruck chosen (trace h) c ≡ true → when (trace h) && (names id c && more) ≡ false
+      not-named : (h : History) (c : Event) (more : Bool) → isStruck chosen (trace h) c ≡ true → when (trace h) && (names id c && more) ≡ false
       not-named h c more e = go (when (trace h)) refl
         where
           go : (b : Bool) → when (trace h) ≡ b → b && (names id c && more) ≡ false
@@ -114,7 +113,7 @@ module _ (chosen : ℕ) where
       unfolding holdsIndifferent
       seen h w = hidden-not chosen id (clientOf (after scheduler h) id) (rw (indifferent-held id h) at (watched h w))
 
-      answers-logged : Logged chosen (λ p d. when p && names id (d .call)) (λ d. d .answer)
+      answers-logged : Logged chosen (λ p d. when p && names id (d .event)) (λ d. d .answer)
       unfolding dealingAt
       answers-logged = record {
         struckOut = λ h c e. ap (λ (b : Bool). when (trace h) && b) (sym (and-true (names id c))) ∙ not-named h c true e;
@@ -130,7 +129,7 @@ module _ (chosen : ℕ) where
         shows-alike = λ {h} {k} a c e w. departed h k a c w;
       }
         where
-          departs : (h k : History) → AlikeAt chosen h k → (c : Call)
+          departs : (h k : History) → AlikeAt chosen h k → (c : Event)
               → isTick c && isDeparture id (answerAt scheduler h c) ≡ isTick c && isDeparture id (answerAt scheduler k c)
           departs h k a (Open t d v) = refl
           departs h k a (Join j kind r b) = refl
@@ -140,7 +139,7 @@ module _ (chosen : ℕ) where
           departs h k a (Arrive j p) = refl
           departs h k a Tick = alike-departure chosen a id
 
-          departed : (h k : History) → AlikeAt chosen h k → (c : Call) → when (trace h) && (isTick c && isDeparture id (answerAt scheduler h c)) ≡ true
+          departed : (h k : History) → AlikeAt chosen h k → (c : Event) → when (trace h) && (isTick c && isDeparture id (answerAt scheduler h c)) ≡ true
               → answerAt scheduler h c ≡ answerAt scheduler k c
           departed h k a (Open t d v) w = true-false (and-both (when (trace h)) false w .1) refl
           departed h k a (Join j kind r b) w = true-false (and-both (when (trace h)) false w .1) refl
@@ -153,7 +152,7 @@ module _ (chosen : ℕ) where
               (and-both (when (trace h)) (isDeparture id (answerAt scheduler h Tick)) w .1)
 
       -- an arrival that was dropped
-      dropped : History → Call → Bool
+      dropped : History → Event → Bool
       dropped h c = isArrival c && (eqb (number (answerAt scheduler h c)) 14 || eqb (number (answerAt scheduler h c)) 15)
 
       drops-logged : Logged chosen (λ p d. when p && drop id d) (λ d. d .answer)
@@ -165,7 +164,7 @@ module _ (chosen : ℕ) where
             alike-answer chosen a c e (not-tick-named c (and-both (names id c) (dropped h c) (and-both (when (trace h)) (names id c && dropped h c) w .1) .0));
       }
         where
-          same : (h k : History) → AlikeAt chosen h k → (c : Call) → isStruck chosen (trace h) c ≡ false → (b : Bool) → names id c ≡ b
+          same : (h k : History) → AlikeAt chosen h k → (c : Event) → isStruck chosen (trace h) c ≡ false → (b : Bool) → names id c ≡ b
               → b && dropped h c ≡ b && dropped k c
           same h k a c e true n =
               ap (λ (x : Answer). isArrival c && (eqb (number x) 14 || eqb (number x) 15)) (alike-answer chosen a c e (not-tick-named c n))
@@ -173,7 +172,7 @@ module _ (chosen : ℕ) where
 
       dealings-same : (h k : History) → kept chosen (trace h) ≡ kept chosen (trace k) → SameDealings chosen id when (trace h) (trace k)
       dealings-same h k e = record {
-        answers = log-same chosen (λ p d. when p && names id (d .call)) (λ d. d .answer) answers-logged h k e;
+        answers = log-same chosen (λ p d. when p && names id (d .event)) (λ d. d .answer) answers-logged h k e;
         departures = log-same chosen (λ p d. when p && departure id d) (λ d. d .answer) departures-logged h k e;
         drops = log-same chosen (λ p d. when p && drop id d) (λ d. d .answer) drops-logged h k e;
       }
@@ -192,7 +191,7 @@ module _ (chosen : ℕ) where
 
   -- ---- the settings and the slots
 
-  settings-logged : Logged chosen (λ p d. isSetting (d .call)) (λ d. d .answer)
+  settings-logged : Logged chosen (λ p d. isSetting (d .event)) (λ d. d .answer)
   unfolding isSetting isStruck dealingAt
   settings-logged = record {
     struckOut = not-setting;
@@ -200,7 +199,7 @@ module _ (chosen : ℕ) where
     shows-alike = λ a c e w. alike-answer chosen a c e (not-tick-setting c w);
   }
     where
-      not-setting : (h : History) (c : Call) → isStruck chosen (trace h) c ≡ true → isSetting c ≡ false
+      not-setting : (h : History) (c : Event) → isStruck chosen (trace h) c ≡ true → isSetting c ≡ false
       not-setting h (Open t d v) e = sym e
       not-setting h (Join j k r b) e = sym e
       not-setting h (Change j k r b) e = sym e
@@ -209,7 +208,7 @@ module _ (chosen : ℕ) where
       not-setting h (Arrive j p) e = refl
       not-setting h Tick e = refl
 
-  slots-logged : Logged chosen (λ p d. isTick (d .call)) (λ d. d .pick)
+  slots-logged : Logged chosen (λ p d. isTick (d .event)) (λ d. d .pick)
   unfolding dealingAt
   slots-logged = record {
     struckOut = not-tick-struck;
@@ -222,8 +221,8 @@ module _ (chosen : ℕ) where
   looks-same : (h k : History) → kept chosen (trace h) ≡ kept chosen (trace k)
       → LooksSame chosen (trace h) (holdingsOf (after scheduler h)) (trace k) (holdingsOf (after scheduler k))
   looks-same h k e = record {
-    settings = log-same chosen (λ p d. isSetting (d .call)) (λ d. d .answer) settings-logged h k e;
-    slots = log-same chosen (λ p d. isTick (d .call)) (λ d. d .pick) slots-logged h k e;
+    settings = log-same chosen (λ p d. isSetting (d .event)) (λ d. d .answer) settings-logged h k e;
+    slots = log-same chosen (λ p d. isTick (d .event)) (λ d. d .pick) slots-logged h k e;
     chosenDealings = dealings-same chosen (λ p. true) (λ p q a. refl) (λ p w. own p) h k e;
     chosenHoldings = holdings-same chosen h k alike (own h);
     indifferentAlike = alike-indifferent chosen alike;

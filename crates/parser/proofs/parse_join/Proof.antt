@@ -5,8 +5,8 @@ use mathlib.Core.Bool.{true}
 use mathlib.Core.List.{[]}
 use lib.ListN.{drop, take}
 use borrow.Author.Tests.{not-true, not-false}
-use Rattle.definitions.specs.declared.Call.the-variants.{Join}
-use Rattle.definitions.specs.Sizes.{privateType, indifferentType}
+use Rattle.grammar.specs.declared.Call.the-variants.{Join}
+use Rattle.definitions.specs.Sizes.{privateKind, indifferentKind}
 use Rattle.grammar.specs.Bytes.{bytes}
 use Rattle.grammar.specs.Grammar.{rules, parsedBy}
 use Rattle.parser.specs.Texts.{starts}
@@ -54,11 +54,11 @@ judge-requires : tie.Need-judge-requires
 judge-requires c κs = search needs
 
 returns-2 : tie.Need-returns-2
-unfolding rules plain privateType
+unfolding rules plain privateKind
 returns-2 c =
     let read = c .before .before in
     let found = read-behind "(join " "# (private #))" _ refl (begun (read .before .before)) (read .read-as .ensures) in
-    rule-fits (λ id rate burst. Join id privateType rate 0) "(join # (private #))" (take 1 (drop 2 rules)) _ found
+    rule-fits (λ id rate burst. Join id privateKind rate 0) "(join # (private #))" (take 1 (drop 2 rules)) _ found
     (c .before .if2 .taken) (c .judge .ensures)
 
 slice-aggregate-read-as-2 : tie.Need-slice-aggregate-read-as-2
@@ -71,12 +71,12 @@ judge-requires-2 : tie.Need-judge-requires-2
 judge-requires-2 c κs = search needs
 
 returns-3 : tie.Need-returns-3
-unfolding rules plain indifferentType
+unfolding rules plain indifferentKind
 returns-3 c =
     let read = c .before .before in
     let first = read .before .before in
     let found = read-behind "(join " "# (indifferent # #))" _ refl (begun (first .before .before .before)) (read .read-as2 .ensures) in
-    rule-fits (λ id rate burst. Join id indifferentType rate burst) "(join # (indifferent # #))" [] _ found (c .before .if3 .taken)
+    rule-fits (λ id rate burst. Join id indifferentKind rate burst) "(join # (indifferent # #))" [] _ found (c .before .if3 .taken)
     (c .judge2 .ensures)
     ∙ sym (first-off first)
 

@@ -5,7 +5,7 @@ use mathlib.Core.Logic.{⊎-elim}
 use mathlib.Core.List.{[]}
 use lib.ListN.{drop, take}
 use borrow.Author.Tests.{not-true, not-false}
-use Rattle.definitions.specs.declared.Call.the-variants.{Leave, Load}
+use Rattle.grammar.specs.declared.Call.the-variants.{Leave, Load}
 use Rattle.grammar.specs.Grammar.{rules, parsedBy}
 use Rattle.parser.proofs.Forms.{no-rule, rule-fits, rule-off}
 use Rattle.parser.proofs.Texts.{plain, rule-missed, read-behind, not-begun}

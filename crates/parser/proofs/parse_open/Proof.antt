@@ -3,7 +3,7 @@
 use mathlib.Core.Path.{refl, sym, _∙_}
 use mathlib.Core.List.{[]}
 use borrow.Author.Tests.{not-true, not-false}
-use Rattle.definitions.specs.declared.Call.the-variants.{Open}
+use Rattle.grammar.specs.declared.Call.the-variants.{Open}
 use Rattle.grammar.specs.Grammar.{rules}
 use Rattle.parser.proofs.Forms.{no-rule, rule-fits, rule-off}
 use Rattle.parser.proofs.Texts.{plain, rule-missed, read-behind, not-begun}

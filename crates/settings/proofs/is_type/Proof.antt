@@ -1,17 +1,17 @@
 -- `settings::is_type` meets its contract: of the two types, and of no other, there are clients. Assumes nothing.
 use borrow.Author.Tests.{eq-eqb, ne-eqb}
-use Rattle.definitions.specs.Sizes.{indifferentType, privateType}
+use Rattle.definitions.specs.Sizes.{indifferentKind, privateKind}
 use Rattle.definitions.specs.Client.{kindOf}
 use Rattle.definitions.proofs.Laws.Clients.{active-private}
 use Rattle.settings.proofs.is_type.Statement.{statement}
 use Rattle.settings.proofs.is_type.Tie as tie
 
 returns : tie.Need-returns
-unfolding kindOf indifferentType privateType
+unfolding kindOf indifferentKind privateKind
 returns c = rw (eq-eqb _ _ (c .if1 .taken))
 
 returns-2 : tie.Need-returns-2
-unfolding kindOf indifferentType privateType
+unfolding kindOf indifferentKind privateKind
 returns-2 c = rw (ne-eqb _ _ (c .if1 .left)) (active-private _)
 
 pub is-type-spec : {M : Type 1} → statement M

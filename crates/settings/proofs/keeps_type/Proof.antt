@@ -1,7 +1,7 @@
 -- `settings::keeps_type` meets its contract: an active client that is not indifferent is private. Assumes nothing.
 use borrow.Author.Needs.{needs}
 use mathlib.Core.Path.{sym, _∙_}
-use Rattle.definitions.specs.Sizes.{indifferentType, privateType}
+use Rattle.definitions.specs.Sizes.{indifferentKind, privateKind}
 use Rattle.tables.specs.Meaning.{kindAt}
 use Rattle.definitions.proofs.Laws.Clients.{kindOf-indifferent, kindOf-private}
 use Rattle.settings.proofs.Remarks.{other-kind}
@@ -12,11 +12,11 @@ has-requires : tie.Need-has-requires
 has-requires c κs = search needs
 
 returns : tie.Need-returns
-unfolding kindAt indifferentType
+unfolding kindAt indifferentKind
 returns c = rw (sym (c .before .has .ensures) ∙ c .if1 .taken) (sym (kindOf-indifferent _))
 
 returns-2 : tie.Need-returns-2
-unfolding privateType
+unfolding privateKind
 returns-2 c =
     let start = c .before .before in
     rw (other-kind (start .args .control) (start .args .id) (sym (c .before .has .ensures) ∙ c .if1 .left) (start .pre))

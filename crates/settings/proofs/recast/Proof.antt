@@ -1,7 +1,7 @@
 -- `settings::recast` meets its contract: the marks of the id are those of its type. Assumes nothing.
 use borrow.Author.Needs.{needs}
 use mathlib.Core.Path.{refl}
-use Rattle.definitions.specs.Sizes.{indifferentType, privateType}
+use Rattle.definitions.specs.Sizes.{indifferentKind, privateKind}
 use Rattle.definitions.proofs.Laws.Clients.{kindOf-indifferent, kindOf-private}
 use Rattle.settings.proofs.recast.Statement.{statement}
 use Rattle.settings.proofs.recast.Tie as tie
@@ -16,7 +16,7 @@ set-mark-requires-3 : tie.Need-set-mark-requires-3
 set-mark-requires-3 c κs = search needs
 
 returns : tie.Need-returns
-unfolding indifferentType privateType
+unfolding indifferentKind privateKind
 returns c = record {
   opened = refl;
   threshold = refl;
