@@ -11,20 +11,21 @@ use borrow.Author.Tests.{eqb-false, eq-eqb, ne-eqb, leb-true}
 use Rattle.definitions.specs.declared.Packet.{Packet}
 use Rattle.definitions.specs.Event.{Event, Open, Join, Change, Leave, Load, Arrive, Tick}
 use Rattle.definitions.specs.Sizes.{shares}
-use Rattle.definitions.specs.Client.{Client, isIndifferent, nobody, joining, changed, loaded, queued, spent, refilled}
-use Rattle.definitions.specs.State.{State, Core, unopened, running, fresh, put, without}
+use Rattle.definitions.specs.Client.{Client, isIndifferent, nobody, joining, changed, charged, refilled}
+use Rattle.definitions.specs.Stock.{bare, loaded}
+use Rattle.definitions.specs.State.{State, Core, unopened, running, fresh, updated, put, stocked, emptied}
 use Rattle.definitions.specs.Answers.{isAccepted}
-use Rattle.definitions.specs.Checks.{Result, Check, accepted, checked, openChecks, activeChecks, joinChecks, changeChecks, leaveChecks, loadChecks, arriveChecks}
-use Rattle.definitions.specs.Calls.{onOpen, updated, onJoin, orderAfterChange, onChange, onLeave, onLoad, orderAfterArrival, onArrive}
-use Rattle.definitions.specs.Tick.{turn, refillAll, slotted, onTick}
+use Rattle.definitions.specs.Checks.{Result, Check, accepted, checked, unchanged, openChecks, activeChecks, joinChecks, changeChecks, leaveChecks, loadChecks, arriveChecks}
+use Rattle.definitions.specs.Calls.{onOpen, onJoin, sideAfterChange, onChange, onLeave, onLoad, sideAfterArrival, onArrive}
+use Rattle.definitions.specs.Tick.{onTick}
 use Rattle.definitions.specs.Core.{step}
 use Rattle.definitions.specs.History.{clientOf}
 use Rattle.definitions.specs.Sameness.{names, isSetting, isArrival, isTick}
 use Rattle.definitions.specs.Bound.{oneIf, isOpen, resets, undisturbed, acceptances, ticks, Bound}
 use Rattle.definitions.proofs.Laws.Tests.{cond-both, T-and}
 use Rattle.definitions.proofs.Laws.Checked.{Passed, checked-cases}
-use Rattle.definitions.proofs.Laws.Clients.{put-other, put-cases, sent-keeps}
-use Rattle.definitions.proofs.Facts.{tick-level}
+use Rattle.definitions.proofs.Laws.Clients.{put-other, put-cases}
+use Rattle.definitions.proofs.Facts.{tick-client}
 
 -- a client d after a client c, of the same kind and rate, where something is taken of the level and something is given
 record Moved (taken given : ℕ) (c d : Client) : Type 0 where
@@ -35,16 +36,12 @@ record Moved (taken given : ℕ) (c d : Client) : Type 0 where
 unmoved : (c : Client) → Moved 0 0 c c
 unmoved c = record { kind = refl; rate = refl; level = omega arith }
 
-loaded-moved : (c : Client) (dummies : ℕ) → Moved 0 0 c (loaded c dummies)
-unfolding loaded
-loaded-moved c dummies = record { kind = refl; rate = refl; level = omega arith }
-
-queued-moved : (c : Client) (p : Packet)
+charged-moved : (c : Client)
     → T (isIndifferent (c .kind))
     → (not (isIndifferent (c .kind)) || leb shares (c .level)) ≡ true
-    → Moved shares 0 c (queued c p)
-unfolding queued
-queued-moved c p indifferently covered = record {
+    → Moved shares 0 c (charged c)
+unfolding charged
+charged-moved c indifferently covered = record {
   kind = refl;
   rate = refl;
   level = go (isIndifferent (c .kind)) indifferently covered;
@@ -67,16 +64,16 @@ module _ (s : State) (id : ℕ) where
   -- A call that passes its checks or keeps the core: the client moves as the accepted call moves it, or not at all.
   checked-moved : (reset arrival : Bool) (cs : List Check) (after : State)
       → (Passed cs → reset ≡ false → Moved (cond arrival shares 0) 0 (s .clients id) (after .clients id))
-      → T (not (reset && isAccepted (checked cs (running s) (accepted after) .answer)))
-      → Moved (cond (arrival && isAccepted (checked cs (running s) (accepted after) .answer)) shares 0) 0
+      → T (not (reset && isAccepted (checked cs (unchanged (running s)) (accepted after) .answer)))
+      → Moved (cond (arrival && isAccepted (checked cs (unchanged (running s)) (accepted after) .answer)) shares 0) 0
       (s .clients id)
-      (clientOf (checked cs (running s) (accepted after) .core) id)
+      (clientOf (checked cs (unchanged (running s)) (accepted after) .core) id)
   unfolding isAccepted clientOf
   checked-moved reset arrival cs after done =
       checked-cases
       (λ r. T (not (reset && isAccepted (r .answer)))
       → Moved (cond (arrival && isAccepted (r .answer)) shares 0) 0 (s .clients id) (clientOf (r .core) id))
-      cs (running s) (accepted after)
+      cs (unchanged (running s)) (accepted after)
       (λ number spared. refusal arrival)
       (λ passed spared. acceptance arrival reset spared (done passed))
     where
@@ -100,33 +97,22 @@ module _ (s : State) (id : ℕ) where
       put-other (s .clients) other d id (λ q. eqb-false other id e (sym q)) in
       rw own (unmoved (s .clients id))
 
-  load-moved : (other dummies : ℕ) → Moved 0 0 (s .clients id) (put (s .clients) other (loaded (s .clients other) dummies) id)
-  load-moved other dummies =
-      put-cases (s .clients) other (loaded (s .clients other) dummies) (λ j d. Moved 0 0 (s .clients j) d)
-      (loaded-moved (s .clients other) dummies)
-      (λ j ne. unmoved (s .clients j))
-      id
-
   arrive-moved : (other : ℕ) (p : Packet)
       → T (isIndifferent (s .clients id .kind))
       → Passed (arriveChecks s other p)
-      → Moved (cond (eqb other id) shares 0) 0 (s .clients id) (put (s .clients) other (queued (s .clients other) p) id)
+      → Moved (cond (eqb other id) shares 0) 0 (s .clients id) (put (s .clients) other (charged (s .clients other)) id)
   unfolding arriveChecks activeChecks
   arrive-moved other p indifferently passed =
-      put-cases (s .clients) other (queued (s .clients other) p)
+      put-cases (s .clients) other (charged (s .clients other))
       (λ j d. T (isIndifferent (s .clients j .kind)) → Moved (cond (eqb other j) shares 0) 0 (s .clients j) d)
-      (λ t. rw (eq-eqb other other refl) (queued-moved (s .clients other) p t (passed .1 .1 .1 .1 .0)))
+      (λ t. rw (eq-eqb other other refl) (charged-moved (s .clients other) t (passed .1 .1 .1 .1 .0)))
       (λ j ne t. rw (ne-eqb other j (λ q. ne (sym q))) (unmoved (s .clients j)))
       id
       indifferently
 
   tick-moved : Moved 0 (s .clients id .rate) (s .clients id) (clientOf (onTick s .core) id)
-  unfolding clientOf onTick slotted refillAll refilled spent
-  tick-moved = record {
-    kind = sent-keeps (λ (c : Client). c .kind) (λ c. refl) (turn s .rule) (turn s .id) (s .clients) id;
-    rate = sent-keeps (λ (c : Client). c .rate) (λ c. refl) (turn s .rule) (turn s .id) (s .clients) id;
-    level = rw (tick-level s id) (refilled-within (s .clients id));
-  }
+  unfolding refilled
+  tick-moved = rw (tick-client s id) (record { kind = refl; rate = refl; level = refilled-within (s .clients id) })
 
 -- whether a call, answered so, is an accepted arrival of the client
 abbrev taking : ℕ → Event → Result → Bool
@@ -148,27 +134,27 @@ step-moved (running s) id (Open threshold discipline seed) indifferently spared 
     spared
 step-moved (running s) id (Join other kind rate burst) indifferently spared =
     checked-moved s id (eqb other id) false (joinChecks s other kind rate burst)
-    (updated s other (joining kind rate burst) (s .order))
+    (updated s (put (s .clients) other (joining kind rate burst)) (stocked (s .side) other bare))
     (λ passed. other-moved s id other (joining kind rate burst))
     spared
 step-moved (running s) id (Change other kind rate burst) indifferently spared =
     checked-moved s id (eqb other id) false (changeChecks s other kind rate burst)
-    (updated s other (changed (s .clients other) kind rate burst) (orderAfterChange s other kind))
+    (updated s (put (s .clients) other (changed (s .clients other) kind rate burst)) (sideAfterChange s other kind))
     (λ passed. other-moved s id other (changed (s .clients other) kind rate burst))
     spared
 step-moved (running s) id (Leave other) indifferently spared =
     checked-moved s id (eqb other id) false (leaveChecks s other)
-    (updated s other nobody (without other (s .order)))
+    (updated s (put (s .clients) other nobody) (emptied (s .side) other))
     (λ passed. other-moved s id other nobody)
     spared
 step-moved (running s) id (Load other dummies) indifferently spared =
     checked-moved s id false false (loadChecks s other dummies)
-    (updated s other (loaded (s .clients other) dummies) (s .order))
-    (λ passed kept. load-moved s id other dummies)
+    (updated s (s .clients) (stocked (s .side) other (loaded (s .side .stocks other) dummies)))
+    (λ passed kept. unmoved (s .clients id))
     spared
 step-moved (running s) id (Arrive other p) indifferently spared =
     checked-moved s id false (eqb other id) (arriveChecks s other p)
-    (updated s other (queued (s .clients other) p) (orderAfterArrival s other))
+    (updated s (put (s .clients) other (charged (s .clients other))) (sideAfterArrival s other p))
     (λ passed kept. arrive-moved s id other p indifferently passed)
     spared
 step-moved (running s) id Tick indifferently spared = tick-moved s id

@@ -12,27 +12,29 @@ use Rattle.definitions.specs.Event.{Open, Join, Change, Leave, Load, Arr
 use Rattle.definitions.specs.declared.Answer.the-variants.{Accepted}
 use Rattle.definitions.specs.Sizes.{poolLimit, firstCome}
 use Rattle.definitions.specs.Draw.{draw}
-use Rattle.definitions.specs.Client.{kindOf, Client, retuned, joining, changed, spent, refilled}
-use Rattle.definitions.specs.State.{State, Core, unopened, running}
+use Rattle.definitions.specs.Client.{kindOf, retuned, joining, changed, refilled}
+use Rattle.definitions.specs.Stock.{bare}
+use Rattle.definitions.specs.State.{State, Core, unopened, running, updated, emptied}
 use Rattle.definitions.specs.Answers.{isDeparture}
-use Rattle.definitions.specs.Checks.{Check, accepted, checked, openChecks, termChecks, joinChecks, activeChecks, changeChecks, leaveChecks, loadChecks, arriveChecks}
-use Rattle.definitions.specs.Calls.{onOpen, updated, onJoin, onChange, onLeave, onLoad, onArrive}
-use Rattle.definitions.specs.Tick.{rule2, firstTurn, turnBy, turn, outcomeBy, refillAll, slotted, onTick}
+use Rattle.definitions.specs.Checks.{Check, accepted, checked, unchanged, openChecks, termChecks, joinChecks, activeChecks, changeChecks, leaveChecks, loadChecks, arriveChecks}
+use Rattle.definitions.specs.Calls.{onOpen, onJoin, sideAfterChange, onChange, onLeave, onLoad, onArrive}
+use Rattle.definitions.specs.Tick.{rule2, firstTurn, turnBy, turn, outcomeBy, sideAfter, refillAll, slotted, onTick}
 use Rattle.definitions.specs.Core.{whenOpened, step}
-use Rattle.definitions.specs.History.{clientOf, generatorOf}
+use Rattle.definitions.specs.History.{clientOf, stockOf, generatorOf}
 use Rattle.definitions.specs.Bound.{isOpen}
 use Rattle.definitions.specs.Facts.{TickFacts, ChangeFacts, CheckFacts}
 use Rattle.definitions.proofs.Laws.Checked.{checked-accepted, checked-kept, refused-differs}
 use Rattle.definitions.proofs.Laws.Rules.{sent-bears}
-use Rattle.definitions.proofs.Laws.Clients.{put-same, sent-keeps, sameKind-refl, sameKind-false}
+use Rattle.definitions.proofs.Laws.Kinds.{sameKind-refl, sameKind-false}
+use Rattle.definitions.proofs.Laws.Clients.{put-same}
 
--- after any tick, whoever was picked, the bucket of every id is that of before, refilled
-pub tick-level : (s : State) (id : ℕ) → clientOf (onTick s .core) id .level ≡ refilled (s .clients id) .level
-unfolding clientOf onTick slotted refillAll refilled spent
-tick-level s id = sent-keeps (λ (c : Client). refilled c .level) (λ c. refl) (turn s .rule) (turn s .id) (s .clients) id
+-- after any tick, whoever was picked, every client is that of before, refilled
+pub tick-client : (s : State) (id : ℕ) → clientOf (onTick s .core) id ≡ refilled (s .clients id)
+unfolding clientOf onTick slotted updated refillAll
+tick-client s id = refl
 
 pub tick-facts : TickFacts
-unfolding generatorOf onTick slotted turn turnBy firstTurn draw isDeparture outcomeBy refilled
+unfolding generatorOf onTick slotted updated sideAfter turn turnBy firstTurn draw isDeparture outcomeBy refilled
 tick-facts = record {
   tick-rule1-firstCome = λ s r d. rw (r, eq-eqb (s .discipline) firstCome d);
   tick-rule1-drawn = λ s r d. rw (r, ne-eqb (s .discipline) firstCome d);
@@ -41,8 +43,8 @@ tick-facts = record {
   tick-rule2-id = λ s r. rw r;
   tick-rule2-alike = λ s t r q g same. rw (r, q, g, fun-ext same);
   tick-rule2-bears = λ s r. rw (r, sent-bears) (eqb-refl (turnBy rule2 s .id));
-  tick-refills = λ s id k. rw (tick-level, k);
-  tick-private-level = λ s id k. rw (tick-level, k);
+  tick-refills = λ s id k. rw (tick-client, k);
+  tick-private-level = λ s id k. rw (tick-client, k);
 }
 
 -- an accepted change makes of its client what `changed` says
@@ -51,25 +53,37 @@ change-client : (s : State) (id kind rate burst : ℕ)
     → clientOf (onChange s id kind rate burst .core) id ≡ changed (s .clients id) kind rate burst
 unfolding onChange clientOf updated
 change-client s id kind rate burst ok =
-    rw (checked-accepted (changeChecks s id kind rate burst) (running s) _ ok) (put-same (s .clients) id _)
+    rw (checked-accepted (changeChecks s id kind rate burst) (unchanged (running s)) _ ok) (put-same (s .clients) id _)
+
+-- and of its stock what `sideAfterChange` says
+change-stock : (s : State) (id kind rate burst : ℕ)
+    → onChange s id kind rate burst .answer ≡ Accepted
+    → stockOf (onChange s id kind rate burst .core) id ≡ sideAfterChange s id kind .stocks id
+unfolding onChange stockOf updated
+change-stock s id kind rate burst ok = rw (checked-accepted (changeChecks s id kind rate burst) (unchanged (running s)) _ ok)
 
 pub change-facts : ChangeFacts
-unfolding changed retuned joining onChange checked changeChecks activeChecks termChecks
+unfolding changed retuned joining sideAfterChange emptied onChange checked changeChecks activeChecks termChecks
 change-facts = record {
   change-keeps = λ s id kind rate burst ok k.
-      rw (change-client s id kind rate burst ok, ← k, sameKind-refl)
-      (record { queue-is = refl; pool-is = refl; level-is = refl });
+      record {
+        stock-is = rw (change-stock s id kind rate burst ok, ← k, sameKind-refl);
+        level-is = rw (change-client s id kind rate burst ok, ← k, sameKind-refl);
+      };
   change-empties = λ s id kind rate burst ok k.
-      rw (change-client s id kind rate burst ok, sameKind-false (s .clients id .kind) (kindOf kind) k)
-      (record { queue-is = refl; pool-is = refl; level-is = refl });
+      record {
+        stock-is = rw (change-stock s id kind rate burst ok, sameKind-false (s .clients id .kind) (kindOf kind) k)
+            (put-same (s .side .stocks) id bare);
+        level-is = rw (change-client s id kind rate burst ok, sameKind-false (s .clients id .kind) (kindOf kind) k);
+      };
   change-within = λ s id kind rate burst p h. rw (p .named, p .active, p .typed, p .rated, p .fits, le-leb _ _ h);
   change-past = λ s id kind rate burst p h. rw (p .named, p .active, p .typed, p .rated, p .fits, lt-leb _ _ h);
 }
 
 -- a call with checks that is refused, by 19 or by a check, leaves the core as it was
 whenOpened-kept : (core : Core) (checks : State → List Check) (made : State → State)
-    → whenOpened core (λ s. checked (checks s) (running s) (accepted (made s))) .answer ≢ Accepted
-    → whenOpened core (λ s. checked (checks s) (running s) (accepted (made s))) .core ≡ core
+    → whenOpened core (λ s. checked (checks s) (unchanged (running s)) (accepted (made s))) .answer ≢ Accepted
+    → whenOpened core (λ s. checked (checks s) (unchanged (running s)) (accepted (made s))) .core ≡ core
 whenOpened-kept unopened checks made n = refl
 whenOpened-kept (running s) checks made n = checked-kept (checks s) (running s) (made s) n
 
@@ -77,7 +91,7 @@ pub check-facts : CheckFacts
 unfolding step onOpen onJoin onChange onLeave onLoad onArrive onTick checked loadChecks arriveChecks activeChecks isOpen
 check-facts = record {
   arrive-full = λ s id p named active fits full. rw (named, active, fits, le-ltb _ _ (le-of-eq (sym full)));
-  load-none = λ s id named k full. rw (named, k, le-leb (s .clients id .pool + 0) poolLimit (omega arith));
+  load-none = λ s id named k full. rw (named, k, le-leb (s .side .stocks id .pool + 0) poolLimit (omega arith));
   open-kept = λ core threshold discipline seed. checked-kept (openChecks threshold discipline seed) core _;
   unopened-refuses = elim [
     | Open threshold discipline seed ↦ λ e. cc

@@ -2,6 +2,7 @@
 -- By induction over the history: an unopened core has nothing, and each of the seven calls keeps the limits.
 pub mod Order
 pub mod Client
+pub mod Stock
 pub mod Calls
 pub mod Slots
 pub mod Turns

@@ -9,13 +9,13 @@ use Rattle.definitions.specs.declared.Packet.{Packet}
 use Rattle.definitions.specs.Event.{Event, Open, Join, Change, Leave, Load, Arrive, Tick}
 use Rattle.definitions.specs.declared.Answer.the-variants.{Slot}
 use Rattle.definitions.specs.Sizes.{places, shares, shortest, longest}
-use Rattle.definitions.specs.State.{State, Core, running}
-use Rattle.definitions.specs.Checks.{Result, check, accepted, checked, within, activeChecks}
-use Rattle.definitions.specs.Calls.{updated, orderAfterArrival, onArrive}
-use Rattle.definitions.specs.Client.{isIndifferent, queued}
+use Rattle.definitions.specs.State.{State, Core, running, updated, put}
+use Rattle.definitions.specs.Checks.{Result, check, accepted, checked, unchanged, within, activeChecks}
+use Rattle.definitions.specs.Calls.{sideAfterArrival, onArrive}
+use Rattle.definitions.specs.Client.{isIndifferent, charged}
 use Rattle.definitions.specs.Tick.{Turn, turn, outcomeBy, slotted, onTick}
 use Rattle.definitions.specs.Core.{whenOpened, step}
-use Rattle.definitions.specs.History.{Scheduler, pickIn, schedulerBy}
+use Rattle.definitions.specs.History.{Scheduler, schedulerBy}
 use Rattle.definitions.specs.Sameness.{isTick}
 
 -- another tick
@@ -25,12 +25,12 @@ withTick tick core c = cond (isTick c) (whenOpened core tick) (step core c)
 -- a slot that is another turn's
 unfoldable pub slotBy : (State → Turn) → State → Result
 slotBy turnOf s = record {
-  answer = Slot (outcomeBy (turnOf s .rule) (turnOf s .id) (s .clients));
+  answer = Slot (outcomeBy (turnOf s .rule) (turnOf s .id) s);
   core = running (slotted s (turnOf s));
 }
 
 abbrev pub byTurn : (State → Turn) → Scheduler
-byTurn turnOf = schedulerBy (withTick (slotBy turnOf)) (pickIn turnOf)
+byTurn turnOf = schedulerBy (withTick (slotBy turnOf)) turnOf
 
 -- another arrive
 unfoldable pub withArrive : (State → ℕ → Packet → Result) → Core → Event → Result
@@ -44,7 +44,7 @@ withArrive arrive core Tick = step core Tick
 
 -- what checks 14 and 15 ask for
 unfoldable pub roomLeft : State → ℕ → Bool
-roomLeft s id = ltb (length (s .clients id .queue)) places
+roomLeft s id = ltb (length (s .side .stocks id .queue)) places
 
 unfoldable pub tokenLeft : State → ℕ → Bool
 tokenLeft s id = not (isIndifferent (s .clients id .kind)) || leb shares (s .clients id .level)
@@ -54,8 +54,8 @@ unfoldable pub arriveIf : (State → ℕ → Bool) → (State → ℕ → Bool) 
 arriveIf room token s id p =
     checked
     (activeChecks s id (check 13 (within shortest longest (p .length)) ∷ check 14 (room s id) ∷ check 15 (token s id) ∷ []))
-    (running s)
-    (accepted (updated s id (queued (s .clients id) p) (orderAfterArrival s id)))
+    (unchanged (running s))
+    (accepted (updated s (put (s .clients) id (charged (s .clients id))) (sideAfterArrival s id p)))
 
 -- another change
 unfoldable pub withChange : (State → ℕ → ℕ → ℕ → ℕ → Result) → Core → Event → Result

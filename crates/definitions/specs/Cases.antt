@@ -14,7 +14,7 @@ use Rattle.definitions.specs.State.{Core, unopened}
 use Rattle.definitions.specs.Answers.{real, dummy, idle, none, shown}
 use Rattle.definitions.specs.Tick.{privateRate}
 use Rattle.definitions.specs.Core.{step}
-use Rattle.definitions.specs.History.{clientOf, generatorOf}
+use Rattle.definitions.specs.History.{clientOf, stockOf, generatorOf}
 
 pub record Case : Type 0 where
   pub given : List ℕ
@@ -49,7 +49,7 @@ targetAt core = draw (generatorOf core) (privateRate (clientOf core)) .sample .t
 
 -- how many packets of an id wait
 unfoldable pub waiting : Core → ℕ → ℕ
-waiting core id = length (clientOf core id .queue)
+waiting core id = length (stockOf core id .queue)
 
 abbrev pub level : Core → ℕ → ℕ
 level core id = clientOf core id .level
@@ -96,7 +96,7 @@ cases =
     gives 0 ∷ 1000 ∷ [])
     -- P8 "pool 255: load 0 accepted, load 1 gets 12"
     ∷ (let full = opened 1024 (Join 2 privateKind 100 0 ∷ Load 2 255 ∷ []) in
-    clientOf full 2 .pool ∷ said full (Load 2 0 ∷ []) ++ said full (Load 2 1 ∷ [])
+    stockOf full 2 .pool ∷ said full (Load 2 0 ∷ []) ++ said full (Load 2 1 ∷ [])
     gives 255 ∷ 0 ∷ 12 ∷ [])
     -- P9 "tick with indifferent clients only, none waiting: none, generator as before"
     ∷ (let quiet = opened 1024 (Join 3 indifferentKind 100 1 ∷ Join 7 indifferentKind 100 1 ∷ []) in

@@ -33,10 +33,14 @@ accepted s = record { answer = Accepted; core = running s }
 abbrev pub refused : ℕ → Core → Result
 refused number before = record { answer = Refused number; core = before }
 
--- What is done where every check is passed; else the number of the first that fails, and the core as it was.
-unfoldable pub checked : List Check → Core → Result → Result
-checked [] before done = done
-checked (c ∷ cs) before done = cond (c .passed) (checked cs before done) (refused (c .number) before)
+-- What is done where every check is passed; else the number of the first that fails, and the core that a refusal with it leaves.
+unfoldable pub checked : List Check → (ℕ → Core) → Result → Result
+checked [] left done = done
+checked (c ∷ cs) left done = cond (c .passed) (checked cs left done) (refused (c .number) (left (c .number)))
+
+-- "and nothing changes": every refusal leaves the core as it was
+abbrev pub unchanged : Core → ℕ → Core
+unchanged before number = before
 
 unfoldable pub within : ℕ → ℕ → ℕ → Bool
 within low high x = leb low x && leb x high
@@ -90,13 +94,13 @@ module _ (s : State) (id : ℕ) where
   loadChecks dummies =
       activeChecks
       (check 11 (not (isIndifferent (s .clients id .kind)))
-      ∷ check 12 (leb (s .clients id .pool + dummies) poolLimit)
+      ∷ check 12 (leb (s .side .stocks id .pool + dummies) poolLimit)
       ∷ [])
 
   unfoldable pub arriveChecks : Packet → List Check
   arriveChecks p =
       activeChecks
       (check 13 (within shortest longest (p .length))
-      ∷ check 14 (ltb (length (s .clients id .queue)) places)
+      ∷ check 14 (ltb (length (s .side .stocks id .queue)) places)
       ∷ check 15 (not (isIndifferent (s .clients id .kind)) || leb shares (s .clients id .level))
       ∷ [])

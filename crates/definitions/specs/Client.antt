@@ -1,13 +1,11 @@
--- A client with its queue, pool and bucket (paper 01, "Clients, queues, pools").
+-- A client: its kind, its rate and its bucket, which it has once (paper 01, "Clients, queues, pools"). Queue and pool are its stock.
 -- The bucket is the level, the rate at which it is refilled and the burst that caps it.
-use Prim.Native.Nat.{ℕ, pred, _+_, _-_, _*_, min}
+use Prim.Native.Nat.{ℕ, _+_, _-_, _*_, min}
 use mathlib.Core.Bool.{Bool, true, false, cond, not}
-use mathlib.Core.List.{List, [], _∷_, _++_, tail}
 use lib.Dec.{eqb}
-use Rattle.definitions.specs.declared.Packet.{Packet}
 use Rattle.definitions.specs.Sizes.{shares, indifferentKind, privateKind}
 
--- "An active client is indifferent (type 1) or private (type 2)."
+-- "An active client is indifferent (type 1) or private (type 2)." A kind is the paper's type.
 pub data Kind : Type 0 where
   absent indifferent private : Kind
 
@@ -39,77 +37,30 @@ pub record Client : Type 0 where
   pub rate : ℕ
   pub burst : ℕ
   pub level : ℕ
-  pub pool : ℕ
-  pub queue : List Packet
-
-abbrev pub empty : List Packet → Bool
-empty [] = true
-empty (p ∷ ps) = false
 
 -- an id that is not active has nothing
 abbrev pub nobody : Client
-nobody = record { kind = absent; rate = 0; burst = 0; level = 0; pool = 0; queue = [] }
+nobody = record { kind = absent; rate = 0; burst = 0; level = 0 }
 
--- "A join starts with an empty queue, a pool of 0 and, if indifferent, a full bucket." Of burst 0, full is 0.
+abbrev pub withLevel : Client → ℕ → Client
+withLevel c level = record { kind = c .kind; rate = c .rate; burst = c .burst; level = level }
+
+-- "A join starts with .. if indifferent, a full bucket." Of burst 0, full is 0.
 unfoldable pub joining : ℕ → ℕ → ℕ → Client
-joining kind rate burst = record { kind = kindOf kind; rate = rate; burst = burst; level = burst * shares; pool = 0; queue = [] }
+joining kind rate burst = record { kind = kindOf kind; rate = rate; burst = burst; level = burst * shares }
 
--- "If the type stays, queue and pool stay, and a level above the new burst × 1024 comes down to it."
+-- "If the type stays, .. a level above the new burst × 1024 comes down to it."
 unfoldable pub retuned : Client → ℕ → ℕ → Client
-retuned c rate burst = record {
-  kind = c .kind;
-  rate = rate;
-  burst = burst;
-  level = min (c .level) (burst * shares);
-  pool = c .pool;
-  queue = c .queue;
-}
+retuned c rate burst = record { kind = c .kind; rate = rate; burst = burst; level = min (c .level) (burst * shares) }
 
--- "If the type differs, queue and pool become empty, and a new indifferent client's bucket is full."
+-- "If the type differs, .. a new indifferent client's bucket is full."
 unfoldable pub changed : Client → ℕ → ℕ → ℕ → Client
 changed c kind rate burst = cond (sameKind (c .kind) (kindOf kind)) (retuned c rate burst) (joining kind rate burst)
 
--- "Load adds dummies to a private pool."
-unfoldable pub loaded : Client → ℕ → Client
-loaded c dummies = record {
-  kind = c .kind;
-  rate = c .rate;
-  burst = c .burst;
-  level = c .level;
-  pool = c .pool + dummies;
-  queue = c .queue;
-}
-
--- "Arrive puts one packet last in its client's queue. For an indifferent client it also takes 1024 from the bucket."
-unfoldable pub queued : Client → Packet → Client
-queued c p = record {
-  kind = c .kind;
-  rate = c .rate;
-  burst = c .burst;
-  level = cond (isIndifferent (c .kind)) (c .level - shares) (c .level);
-  pool = c .pool;
-  queue = c .queue ++ (p ∷ []);
-}
-
--- What a slot takes from the client whose slot it is: "its first packet; without one, a dummy, which lowers its pool by 1".
--- An empty pool stays empty.
-unfoldable pub spent : Client → Client
-spent c = record {
-  kind = c .kind;
-  rate = c .rate;
-  burst = c .burst;
-  level = c .level;
-  pool = cond (empty (c .queue)) (pred (c .pool)) (c .pool);
-  queue = tail (c .queue);
-}
+-- Arrive: "For an indifferent client it also takes 1024 from the bucket."
+unfoldable pub charged : Client → Client
+charged c = withLevel c (cond (isIndifferent (c .kind)) (c .level - shares) (c .level))
 
 -- "The rate is added, up to burst × 1024", for an indifferent client.
 unfoldable pub refilled : Client → Client
-refilled c = record {
-  kind = c .kind;
-  rate = c .rate;
-  burst = c .burst;
-  level = cond (isIndifferent (c .kind)) (min (c .level + c .rate) (c .burst * shares)) (c .level);
-  pool = c .pool;
-  queue = c .queue;
-}
+refilled c = withLevel c (cond (isIndifferent (c .kind)) (min (c .level + c .rate) (c .burst * shares)) (c .level))

@@ -5,7 +5,7 @@ use Prim.Native.Nat.{ℕ, _+_, _-_, _*_, _≤_, _<_, min}
 use mathlib.Core.Path.{_≡_}
 use mathlib.Core.Logic.{_≢_}
 use mathlib.Core.Bool.{true, false}
-use mathlib.Core.List.{List, [], _∷_}
+use mathlib.Core.List.{List, _∷_}
 use lib.Dec.{T, ltb}
 use lib.ListN.{length}
 use Rattle.definitions.specs.declared.Packet.{Packet}
@@ -16,13 +16,14 @@ use Rattle.definitions.specs.Sizes.{ids, places, poolLimit, shares, shor
 use Rattle.definitions.specs.Sample.{sample}
 use Rattle.definitions.specs.Draw.{sumBelow, draw}
 use Rattle.definitions.specs.Client.{indifferent, private, isActive, kindOf, Client}
+use Rattle.definitions.specs.Stock.{Stock, bare}
 use Rattle.definitions.specs.State.{State, Core, unopened, running}
 use Rattle.definitions.specs.Answers.{isDeparture}
 use Rattle.definitions.specs.Checks.{refused, within, rates, burstFits}
 use Rattle.definitions.specs.Calls.{onChange, onLoad, onArrive}
 use Rattle.definitions.specs.Tick.{rule1, rule2, rule3, ruleOf, contenderRate, privateRate, turn, onTick}
 use Rattle.definitions.specs.Core.{step}
-use Rattle.definitions.specs.History.{clientOf, generatorOf}
+use Rattle.definitions.specs.History.{clientOf, stockOf, generatorOf}
 use Rattle.definitions.specs.Limits.{StateLimits}
 use Rattle.definitions.specs.Bound.{isOpen}
 
@@ -30,34 +31,34 @@ use Rattle.definitions.specs.Bound.{isOpen}
 pub record TickFacts : Type 0 where
   -- "Discipline 0: the packet accepted earliest among all indifferent clients": nobody is drawn, and the generator stays as it is.
   pub tick-rule1-firstCome : (s : State)
-      → ruleOf (s .clients) ≡ rule1
+      → ruleOf s ≡ rule1
       → s .discipline ≡ firstCome
-      → generatorOf (onTick s .core) ≡ s .generator
+      → generatorOf (onTick s .core) ≡ s .side .generator
   -- "Discipline 1: a draw among those with a packet waiting", and under any other but 0: the generator is where the draw's sample
   -- leaves it. "Every user of the draw takes this over" (paper 02, S-1).
   pub tick-rule1-drawn : (s : State)
-      → ruleOf (s .clients) ≡ rule1
+      → ruleOf s ≡ rule1
       → s .discipline ≢ firstCome
-      → generatorOf (onTick s .core) ≡ sample (sumBelow ids (contenderRate (s .clients))) (s .generator) .generator
+      → generatorOf (onTick s .core) ≡ sample (sumBelow ids (contenderRate s)) (s .side .generator) .generator
   -- "a draw among all private clients, waiting or not": so it is by rule 2, even where the slot idles.
   pub tick-rule2-generator : (s : State)
-      → ruleOf (s .clients) ≡ rule2
-      → generatorOf (onTick s .core) ≡ sample (sumBelow ids (privateRate (s .clients))) (s .generator) .generator
+      → ruleOf s ≡ rule2
+      → generatorOf (onTick s .core) ≡ sample (sumBelow ids (privateRate (s .clients))) (s .side .generator) .generator
   -- "Otherwise the slot has nobody, and the generator is not stepped."
-  pub tick-rule3-generator : (s : State) → ruleOf (s .clients) ≡ rule3 → generatorOf (onTick s .core) ≡ s .generator
+  pub tick-rule3-generator : (s : State) → ruleOf s ≡ rule3 → generatorOf (onTick s .core) ≡ s .side .generator
   -- "waiting or not": rule 2 looks at the generator and at the rates of the private clients, and at nothing else.
   pub tick-rule2-id : (s : State)
-      → ruleOf (s .clients) ≡ rule2
-      → turn s .id ≡ draw (s .generator) (privateRate (s .clients)) .id
+      → ruleOf s ≡ rule2
+      → turn s .id ≡ draw (s .side .generator) (privateRate (s .clients)) .id
   -- Hence two states that have these in common pick the same id, whatever waits and whatever the pools hold.
   pub tick-rule2-alike : (s t : State)
-      → ruleOf (s .clients) ≡ rule2
-      → ruleOf (t .clients) ≡ rule2
-      → s .generator ≡ t .generator
+      → ruleOf s ≡ rule2
+      → ruleOf t ≡ rule2
+      → s .side .generator ≡ t .side .generator
       → ((id : ℕ) → privateRate (s .clients) id ≡ privateRate (t .clients) id)
       → turn s .id ≡ turn t .id
   -- "a private client's slot is never handed on": the outcome bears the id drawn, whatever that one has to send.
-  pub tick-rule2-bears : (s : State) → ruleOf (s .clients) ≡ rule2 → T (isDeparture (turn s .id) (onTick s .answer))
+  pub tick-rule2-bears : (s : State) → ruleOf s ≡ rule2 → T (isDeparture (turn s .id) (onTick s .answer))
   -- "for every indifferent client .. the rate is added, up to burst × 1024", whoever was picked
   pub tick-refills : (s : State) (id : ℕ)
       → s .clients id .kind ≡ indifferent
@@ -67,11 +68,10 @@ pub record TickFacts : Type 0 where
       → s .clients id .kind ≡ private
       → clientOf (onTick s .core) id .level ≡ s .clients id .level
 
--- what a client holds: queue, pool and bucket
-pub record Has (c : Client) (queue : List Packet) (pool level : ℕ) : Type 0 where
-  pub queue-is : c .queue ≡ queue
-  pub pool-is : c .pool ≡ pool
-  pub level-is : c .level ≡ level
+-- what an id holds in a core: queue and pool, and its bucket
+pub record Has (core : Core) (id : ℕ) (k : Stock) (level : ℕ) : Type 0 where
+  pub stock-is : stockOf core id ≡ k
+  pub level-is : clientOf core id .level ≡ level
 
 -- that a change passes the checks before the threshold's: 4, 5, 7, 8 and 9
 pub record PassesTo10 (s : State) (id kind rate burst : ℕ) : Type 0 where
@@ -87,13 +87,12 @@ pub record ChangeFacts : Type 0 where
   pub change-keeps : (s : State) (id kind rate burst : ℕ)
       → onChange s id kind rate burst .answer ≡ Accepted
       → s .clients id .kind ≡ kindOf kind
-      → Has (clientOf (onChange s id kind rate burst .core) id) (s .clients id .queue) (s .clients id .pool)
-      (min (s .clients id .level) (burst * shares))
+      → Has (onChange s id kind rate burst .core) id (s .side .stocks id) (min (s .clients id .level) (burst * shares))
   -- "If the type differs, queue and pool become empty, and a new indifferent client's bucket is full."
   pub change-empties : (s : State) (id kind rate burst : ℕ)
       → onChange s id kind rate burst .answer ≡ Accepted
       → s .clients id .kind ≢ kindOf kind
-      → Has (clientOf (onChange s id kind rate burst .core) id) [] 0 (burst * shares)
+      → Has (onChange s id kind rate burst .core) id bare (burst * shares)
   -- "the old rate is taken off before the threshold is checked": it is accepted if the rates without the old one and with the
   -- new one are within the threshold
   pub change-within : (s : State) (id kind rate burst : ℕ)
@@ -113,13 +112,13 @@ pub record CheckFacts : Type 0 where
       → ltb id ids ≡ true
       → isActive (s .clients id .kind) ≡ true
       → within shortest longest (p .length) ≡ true
-      → length (s .clients id .queue) ≡ places
+      → length (s .side .stocks id .queue) ≡ places
       → onArrive s id p ≡ refused 14 (running s)
   -- "a load of 0 is accepted": at a full pool
   pub load-none : (s : State) (id : ℕ)
       → ltb id ids ≡ true
       → s .clients id .kind ≡ private
-      → s .clients id .pool ≡ poolLimit
+      → s .side .stocks id .pool ≡ poolLimit
       → onLoad s id 0 .answer ≡ Accepted
   -- "A refused open keeps the earlier core", whatever that was.
   pub open-kept : (core : Core) (threshold discipline seed : ℕ)
@@ -131,11 +130,11 @@ pub record CheckFacts : Type 0 where
   pub step-refused : (core : Core) (c : Event) (n : ℕ) → step core c .answer ≡ Refused n → step core c .core ≡ core
 
 -- a client of rule 1: indifferent, with a packet first in its queue
-pub record Contender (c : Client) : Type 0 where
+pub record Contender (c : Client) (k : Stock) : Type 0 where
   pub indifferently : c .kind ≡ indifferent
   pub packet : Packet
   pub behind : List Packet
-  pub waiting : c .queue ≡ packet ∷ behind
+  pub waiting : k .queue ≡ packet ∷ behind
 
 -- A turn by rule 1: "If an indifferent client has a packet, one goes out." Under either discipline the one picked is such a client,
 -- and its first packet goes out, without padding; no dummy leaves by rule 1, and no slot idles.
@@ -143,9 +142,9 @@ abbrev pub Rule1Sends : Type 0
 Rule1Sends =
     (s : State)
     → StateLimits s
-    → ruleOf (s .clients) ≡ rule1
-    → (picked : Contender (s .clients (turn s .id))) × (onTick s .answer ≡ Slot (Real (turn s .id) (picked .packet) 0))
+    → ruleOf s ≡ rule1
+    → (picked : Contender (s .clients (turn s .id)) (s .side .stocks (turn s .id))) × (onTick s .answer ≡ Slot (Real (turn s .id) (picked .packet) 0))
 
 -- A turn by rule 2: "if a private client is active, a draw among all private clients". The one picked is private.
 abbrev pub Rule2Private : Type 0
-Rule2Private = (s : State) → StateLimits s → ruleOf (s .clients) ≡ rule2 → s .clients (turn s .id) .kind ≡ private
+Rule2Private = (s : State) → StateLimits s → ruleOf s ≡ rule2 → s .clients (turn s .id) .kind ≡ private

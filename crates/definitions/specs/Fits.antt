@@ -8,7 +8,7 @@ use Rattle.definitions.specs.declared.Packet.{Packet}
 use Rattle.definitions.specs.Event.{Event, Open, Join, Change, Leave, Load, Arrive, Tick}
 use Rattle.definitions.specs.Sizes.{numberLimit, handleLimit, shares, longest, privateKind, firstCome}
 use Rattle.definitions.specs.State.{State, Core, unopened, running}
-use Rattle.definitions.specs.History.{History, start, _then_, clientOf, generatorOf, scheduler, after}
+use Rattle.definitions.specs.History.{History, start, _then_, stockOf, generatorOf, scheduler, after}
 
 -- every number of a call is within its limit; a handle has a limit of its own
 abbrev pub EventFits : Event → Type 0
@@ -32,10 +32,10 @@ HandlesFit (p ∷ ps) = (p .handle ≤ handleLimit) × HandlesFit ps
 
 pub record StateFits (s : State) : Type 0 where
   -- "the generator value G .. is 1 to 4294967295" (paper 02, S-2)
-  pub generatorLow : 1 ≤ s .generator
-  pub generatorHigh : s .generator ≤ numberLimit
+  pub generatorLow : 1 ≤ s .side .generator
+  pub generatorHigh : s .side .generator ≤ numberLimit
   -- whoever the packet waits for
-  pub handlesHigh : (id : ℕ) → HandlesFit (s .clients id .queue)
+  pub handlesHigh : (id : ℕ) → HandlesFit (s .side .stocks id .queue)
 
 abbrev pub CoreFits : Core → Type 0
 CoreFits unopened = Unit {0}
@@ -56,7 +56,7 @@ trial seed handle =
 pub record FitsMet : Type 0 where
   pub fits : HistoryFits (trial numberLimit handleLimit)
   pub generator : generatorOf (after scheduler (trial numberLimit handleLimit)) ≡ 253983
-  pub waits : clientOf (after scheduler (trial numberLimit handleLimit)) 2 .queue ≡ long handleLimit ∷ []
+  pub waits : stockOf (after scheduler (trial numberLimit handleLimit)) 2 .queue ≡ long handleLimit ∷ []
 
 -- With one more of either, what is claimed does not hold.
 pub record FitsNeeded : Type 0 where

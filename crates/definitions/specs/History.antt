@@ -1,11 +1,13 @@
 -- Histories: lists of the seven calls with any arguments, refused ones included, from an unopened core
 -- (paper 01, "Two histories"). A history says what is called; a trace says what was called and what it got.
 use Prim.Native.Nat.{ℕ, suc}
-use mathlib.Core.List.{List}
+use mathlib.Core.List.{List, []}
 use Rattle.definitions.specs.declared.Packet.{Packet}
 use Rattle.definitions.specs.Event.{Event}
 use Rattle.definitions.specs.declared.Answer.{Answer}
+use Rattle.definitions.specs.Sample.{Sample}
 use Rattle.definitions.specs.Client.{Client, nobody}
+use Rattle.definitions.specs.Stock.{Stock, bare}
 use Rattle.definitions.specs.State.{State, Core, unopened, running}
 use Rattle.definitions.specs.Checks.{Result}
 use Rattle.definitions.specs.Tick.{Rule, rule1, rule2, rule3, Turn, turn}
@@ -32,11 +34,12 @@ pub data Pick : Type 0 where
   byRule2 : ℕ → Pick
   byRule3 : Pick
 
--- a call that was made, what it got, and whom a slot picks there: whose slot it was, if the call is a tick
+-- a call that was made, what it got, and whom a slot picks there and by which draws: whose slot it was, if the call is a tick
 pub record Dealing : Type 0 where
   pub event : Event
   pub answer : Answer
   pub pick : Pick
+  pub draws : List Sample
 
 infixl 20 _and_
 pub data Trace : Type 0 where
@@ -56,6 +59,7 @@ pub record Scheduler : Type 1 where
   pub answer : Inside → Event → Answer
   pub next : Inside → Event → Inside
   pub pick : Inside → Pick
+  pub draws : Inside → List Sample
   pub holdings : Inside → Holdings
 
 module _ (S : Scheduler) where
@@ -69,7 +73,7 @@ module _ (S : Scheduler) where
   answerAt h c = S .answer (after h) c
 
   unfoldable pub dealingAt : History → Event → Dealing
-  dealingAt h c = record { event = c; answer = answerAt h c; pick = S .pick (after h) }
+  dealingAt h c = record { event = c; answer = answerAt h c; pick = S .pick (after h); draws = S .draws (after h) }
 
   -- a history with what its calls get
   unfoldable pub traceOf : History → Trace
@@ -80,9 +84,13 @@ unfoldable pub clientOf : Core → ℕ → Client
 clientOf unopened id = nobody
 clientOf (running s) id = s .clients id
 
+unfoldable pub stockOf : Core → ℕ → Stock
+stockOf unopened id = bare
+stockOf (running s) id = s .side .stocks id
+
 unfoldable pub generatorOf : Core → ℕ
 generatorOf unopened = 0
-generatorOf (running s) = s .generator
+generatorOf (running s) = s .side .generator
 
 abbrev pub pickBy : Rule → ℕ → Pick
 pickBy rule1 id = byRule1
@@ -93,26 +101,34 @@ abbrev pub pickIn : (State → Turn) → Core → Pick
 pickIn turnOf unopened = noSlot
 pickIn turnOf (running s) = pickBy (turnOf s .rule) (turnOf s .id)
 
-unfoldable pub pickOf : Core → Pick
+abbrev pub drawsIn : (State → Turn) → Core → List Sample
+drawsIn turnOf unopened = []
+drawsIn turnOf (running s) = turnOf s .draws
+
+abbrev pub pickOf : Core → Pick
 pickOf = pickIn turn
+
+abbrev pub drawsOf : Core → List Sample
+drawsOf = drawsIn turn
 
 unfoldable pub holdingsOf : Core → Holdings
 holdingsOf core = record {
-  queue = λ id. clientOf core id .queue;
-  pool = λ id. clientOf core id .pool;
+  queue = λ id. stockOf core id .queue;
+  pool = λ id. stockOf core id .pool;
   level = λ id. clientOf core id .level;
 }
 
--- a scheduler with a core inside: what it makes of a call, and whom its slots pick
-abbrev pub schedulerBy : (Core → Event → Result) → (Core → Pick) → Scheduler
-schedulerBy act pick = record {
+-- a scheduler with a core inside: what it makes of a call, and whose turn its slots are
+abbrev pub schedulerBy : (Core → Event → Result) → (State → Turn) → Scheduler
+schedulerBy act turnOf = record {
   Inside = Core;
   unopenedCore = unopened;
   answer = λ core c. act core c .answer;
   next = λ core c. act core c .core;
-  pick = pick;
+  pick = pickIn turnOf;
+  draws = drawsIn turnOf;
   holdings = holdingsOf;
 }
 
 abbrev pub scheduler : Scheduler
-scheduler = schedulerBy step pickOf
+scheduler = schedulerBy step turn

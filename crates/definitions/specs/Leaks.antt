@@ -8,27 +8,22 @@ use lib.Dec.{eqb, ltb}
 use lib.ListN.{length, replicate}
 use Rattle.definitions.specs.Sizes.{ids, places}
 use Rattle.definitions.specs.Draw.{sumBelow, firstFrom}
-use Rattle.definitions.specs.Client.{Client, nobody, kindOf, sameKind, isIndifferent, isPrivate, empty, changed}
-use Rattle.definitions.specs.State.{State, running, without}
-use Rattle.definitions.specs.Checks.{Result, accepted, checked, changeChecks}
-use Rattle.definitions.specs.Calls.{updated}
+use Rattle.definitions.specs.Client.{Client, nobody, kindOf, sameKind, isIndifferent, isPrivate, changed}
+use Rattle.definitions.specs.Stock.{Stock, empty}
+use Rattle.definitions.specs.State.{Side, State, running, updated, put, without}
+use Rattle.definitions.specs.Checks.{Result, accepted, checked, unchanged, changeChecks}
+use Rattle.definitions.specs.Calls.{sideAfterChange}
 use Rattle.definitions.specs.Tick.{Rule, rule1, rule2, rule3, Turn, turn}
-use Rattle.definitions.specs.History.{Scheduler, pickOf, schedulerBy}
+use Rattle.definitions.specs.History.{Scheduler, schedulerBy}
 use Rattle.definitions.specs.Sameness.{Sameness}
 use Rattle.definitions.specs.Altered.{byTurn, withArrive, tokenLeft, arriveIf, withChange}
 
 -- "Drawing only among private clients that wait": the others are as good as absent.
-unfoldable pub waitingOnly : (ℕ → Client) → ℕ → Client
-waitingOnly clients id = cond (isPrivate (clients id .kind) && empty (clients id .queue)) nobody (clients id)
+unfoldable pub waitingOnly : State → ℕ → Client
+waitingOnly s id = cond (isPrivate (s .clients id .kind) && empty (s .side .stocks id .queue)) nobody (s .clients id)
 
 unfoldable pub turnOfWaiting : State → Turn
-turnOfWaiting s = turn (record {
-  threshold = s .threshold;
-  discipline = s .discipline;
-  generator = s .generator;
-  clients = waitingOnly (s .clients);
-  order = s .order;
-})
+turnOfWaiting s = turn (updated s (waitingOnly s) (s .side))
 
 abbrev pub drawnAmongWaiting : Scheduler
 drawnAmongWaiting = byTurn turnOfWaiting
@@ -43,13 +38,14 @@ isRule2 rule1 = false
 isRule2 rule2 = true
 isRule2 rule3 = false
 
-unfoldable pub idles : Client → Bool
-idles c = empty (c .queue) && eqb (c .pool) 0
+unfoldable pub idles : Stock → Bool
+idles k = empty (k .queue) && eqb (k .pool) 0
 
 unfoldable pub turnHandedOn : State → Turn
 turnHandedOn s = record {
   rule = turn s .rule;
-  id = cond (isRule2 (turn s .rule) && idles (s .clients (turn s .id))) (nextPrivate (s .clients) (turn s .id)) (turn s .id);
+  id = cond (isRule2 (turn s .rule) && idles (s .side .stocks (turn s .id))) (nextPrivate (s .clients) (turn s .id)) (turn s .id);
+  draws = turn s .draws;
   generator = turn s .generator;
 }
 
@@ -59,34 +55,34 @@ idleHandedOn = byTurn turnHandedOn
 -- "One shared store for all packets: 14 would depend on a neighbour." It has as many places as one queue, so that few
 -- packets fill it.
 unfoldable pub roomInStore : State → ℕ → Bool
-roomInStore s id = ltb (sumBelow ids (λ other. length (s .clients other .queue))) places
+roomInStore s id = ltb (sumBelow ids (λ other. length (s .side .stocks other .queue))) places
 
 abbrev pub oneStore : Scheduler
-oneStore = schedulerBy (withArrive (arriveIf roomInStore tokenLeft)) pickOf
+oneStore = schedulerBy (withArrive (arriveIf roomInStore tokenLeft)) turn
 
 -- "Keeping the queue over a change of type." The packets of a client that becomes indifferent stand last in the order.
-unfoldable pub queueKept : Client → ℕ → ℕ → ℕ → Client
-queueKept c kind rate burst = record {
-  kind = kindOf kind;
-  rate = rate;
-  burst = burst;
-  level = changed c kind rate burst .level;
-  pool = changed c kind rate burst .pool;
-  queue = c .queue;
-}
-
 unfoldable pub orderKept : State → ℕ → ℕ → List ℕ
 orderKept s id kind =
-    cond (sameKind (s .clients id .kind) (kindOf kind)) (s .order)
-    (without id (s .order) ++ cond (isIndifferent (kindOf kind)) (replicate (length (s .clients id .queue)) id) [])
+    cond (sameKind (s .clients id .kind) (kindOf kind)) (s .side .order)
+    (without id (s .side .order) ++ cond (isIndifferent (kindOf kind)) (replicate (length (s .side .stocks id .queue)) id) [])
+
+unfoldable pub sideKept : State → ℕ → ℕ → Side
+sideKept s id kind = record {
+  generator = s .side .generator;
+  order = orderKept s id kind;
+  stocks = put (s .side .stocks) id (record {
+    queue = s .side .stocks id .queue;
+    pool = sideAfterChange s id kind .stocks id .pool;
+  });
+}
 
 unfoldable pub changeKeeping : State → ℕ → ℕ → ℕ → ℕ → Result
 changeKeeping s id kind rate burst =
-    checked (changeChecks s id kind rate burst) (running s)
-    (accepted (updated s id (queueKept (s .clients id) kind rate burst) (orderKept s id kind)))
+    checked (changeChecks s id kind rate burst) (unchanged (running s))
+    (accepted (updated s (put (s .clients) id (changed (s .clients id) kind rate burst)) (sideKept s id kind)))
 
 abbrev pub queueOverChange : Scheduler
-queueOverChange = schedulerBy (withChange changeKeeping) pickOf
+queueOverChange = schedulerBy (withChange changeKeeping) turn
 
 -- of none of them demand 3 holds
 pub record Leaking : Type 0 where

@@ -8,6 +8,7 @@ pub mod Generator
 pub mod Sample
 pub mod Draw
 pub mod Client
+pub mod Stock
 pub mod State
 -- answers, and the table of numbers
 pub mod Answers

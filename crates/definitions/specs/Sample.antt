@@ -7,9 +7,10 @@ use lib.Dec.{ltb}
 use Rattle.definitions.specs.Sizes.{throws}
 use Rattle.definitions.specs.Generator.{stepped}
 
--- "The draw now gives the target, the new generator state and the number of steps taken."
+-- "The draw now gives the target, the new generator state and the number of steps taken." Beside them stands the sum of the rates in it.
 pub record Sample : Type 0 where
   pub target : ℕ
+  pub sum : ℕ
   pub generator : ℕ
   pub steps : ℕ
 
@@ -19,7 +20,7 @@ evenSpan sum = 2 ^ 32 / sum * sum
 
 -- "The new value modulo the sum of the rates in the draw is the target" (paper 01).
 abbrev pub counted : ℕ → ℕ → ℕ → Sample
-counted sum steps value = record { target = value % sum; generator = value; steps = steps }
+counted sum steps value = record { target = value % sum; sum = sum; generator = value; steps = steps }
 
 -- from a value that so many steps gave, where so many may still be thrown away
 unfoldable pub sampleFrom : ℕ → ℕ → ℕ → ℕ → Sample

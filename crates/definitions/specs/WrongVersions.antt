@@ -14,12 +14,13 @@ use Rattle.definitions.specs.declared.Answer.the-variants.{Slot}
 use Rattle.definitions.specs.Sizes.{ids, places, shares}
 use Rattle.definitions.specs.Draw.{firstFrom}
 use Rattle.definitions.specs.Client.{Client, isIndifferent, isPrivate}
+use Rattle.definitions.specs.Stock.{Stock}
 use Rattle.definitions.specs.State.{State, Core, unopened, running}
 use Rattle.definitions.specs.Checks.{Result, refused}
 use Rattle.definitions.specs.Calls.{onArrive}
-use Rattle.definitions.specs.Tick.{Rule, rule1, rule2, rule3, Turn, contends, turn, slotted, onTick}
+use Rattle.definitions.specs.Tick.{Rule, rule1, rule2, rule3, Turn, undrawn, contends, turn, slotted, onTick}
 use Rattle.definitions.specs.Core.{step}
-use Rattle.definitions.specs.History.{History, Scheduler, answerAt, pickOf, holdingsOf, schedulerBy, scheduler}
+use Rattle.definitions.specs.History.{History, Scheduler, answerAt, pickOf, drawsOf, holdingsOf, schedulerBy, scheduler}
 use Rattle.definitions.specs.Sameness.{isTick}
 use Rattle.definitions.specs.Altered.{withTick, byTurn, withArrive, roomLeft, tokenLeft, arriveIf}
 
@@ -33,7 +34,7 @@ pub record Differs (S : Scheduler) : Type 0 where
 unfoldable pub unsent : State → Outcome → Result
 unsent s outcome = record {
   answer = Slot outcome;
-  core = running (slotted s (record { rule = rule3; id = 0; generator = turn s .generator }));
+  core = running (slotted s (undrawn rule3 0 (turn s .generator)));
 }
 
 -- "every private slot a dummy though packets wait"
@@ -43,7 +44,7 @@ dummyBy rule2 s = unsent s (Dummy (turn s .id))
 dummyBy rule3 s = onTick s
 
 abbrev pub alwaysDummy : Scheduler
-alwaysDummy = schedulerBy (withTick (λ s. dummyBy (turn s .rule) s)) pickOf
+alwaysDummy = schedulerBy (withTick (λ s. dummyBy (turn s .rule) s)) turn
 
 -- "the first tick by the rule and every later one idle": it remembers whether it has ticked
 unfoldable pub idleOnceTicked : Core × Bool → Event → Result
@@ -56,32 +57,34 @@ laterIdle = record {
   answer = λ inside c. idleOnceTicked inside c .answer;
   next = λ inside c. (idleOnceTicked inside c .core, inside .1 || isTick c);
   pick = λ inside. pickOf (inside .0);
+  draws = λ inside. drawsOf (inside .0);
   holdings = λ inside. holdingsOf (inside .0);
 }
 
 -- "14 or 15 with places and tokens left": the last place is not given, or the last token
 unfoldable pub twoRoomsLeft : State → ℕ → Bool
-twoRoomsLeft s id = ltb (suc (length (s .clients id .queue))) places
+twoRoomsLeft s id = ltb (suc (length (s .side .stocks id .queue))) places
 
 abbrev pub fullEarly : Scheduler
-fullEarly = schedulerBy (withArrive (arriveIf twoRoomsLeft tokenLeft)) pickOf
+fullEarly = schedulerBy (withArrive (arriveIf twoRoomsLeft tokenLeft)) turn
 
 unfoldable pub moreThanToken : State → ℕ → Bool
 moreThanToken s id = not (isIndifferent (s .clients id .kind)) || ltb shares (s .clients id .level)
 
 abbrev pub drainedEarly : Scheduler
-drainedEarly = schedulerBy (withArrive (arriveIf roomLeft moreThanToken)) pickOf
+drainedEarly = schedulerBy (withArrive (arriveIf roomLeft moreThanToken)) turn
 
 -- "each slot given to the lowest id" of those that its rule is about
-abbrev pub concerns : Rule → Client → Bool
-concerns rule1 c = contends c
-concerns rule2 c = isPrivate (c .kind)
-concerns rule3 c = false
+abbrev pub concerns : Rule → Client → Stock → Bool
+concerns rule1 c k = contends c k
+concerns rule2 c k = isPrivate (c .kind)
+concerns rule3 c k = false
 
 unfoldable pub lowestTurn : State → Turn
 lowestTurn s = record {
   rule = turn s .rule;
-  id = firstFrom 0 ids (λ id. concerns (turn s .rule) (s .clients id));
+  id = firstFrom 0 ids (λ id. concerns (turn s .rule) (s .clients id) (s .side .stocks id));
+  draws = turn s .draws;
   generator = turn s .generator;
 }
 
@@ -93,15 +96,15 @@ unfoldable pub forgotten : State → ℕ → Packet → Result
 forgotten s id p = record { answer = onArrive s id p .answer; core = running s }
 
 abbrev pub notKept : Scheduler
-notKept = schedulerBy (withArrive forgotten) pickOf
+notKept = schedulerBy (withArrive forgotten) turn
 
 -- "a refusal to every call", with any numbers
 abbrev pub refusesAll : (Core → Event → ℕ) → Scheduler
-refusesAll number = schedulerBy (λ core c. refused (number core c) core) pickOf
+refusesAll number = schedulerBy (λ core c. refused (number core c) core) turn
 
 -- "`none` always"
 abbrev pub alwaysNone : Scheduler
-alwaysNone = schedulerBy (withTick (λ s. unsent s None)) pickOf
+alwaysNone = schedulerBy (withTick (λ s. unsent s None)) turn
 
 pub record AllDiffer : Type 0 where
   pub alwaysDummy-differs : Differs alwaysDummy

@@ -1,4 +1,4 @@
--- What a checked call gives: the number of a refusal and the core before, or what is done once every check is passed.
+-- What a checked call gives: the number of a refusal and the core that it leaves, or what is done once every check is passed.
 -- By induction over the checks. Assumes nothing.
 use Prim.Native.Nat.{ℕ}
 use mathlib.Core.Path.{_≡_, refl}
@@ -9,36 +9,38 @@ use native.Mathlib.Omega.{arith}
 use Rattle.definitions.specs.declared.Answer.{Answer}
 use Rattle.definitions.specs.declared.Answer.the-variants.{Accepted, Refused}
 use Rattle.definitions.specs.State.{State, Core}
-use Rattle.definitions.specs.Checks.{Result, Check, accepted, refused, checked}
+use Rattle.definitions.specs.Checks.{Result, Check, accepted, refused, checked, unchanged}
 
 -- that every check of a list is passed
 abbrev pub Passed : List Check → Type 0
 Passed [] = Unit {0}
 Passed (c ∷ cs) = (c .passed ≡ true) × Passed cs
 
--- A checked call either is refused with some number and keeps the core, or passes every check and is done.
-pub checked-cases {ℓ} : (P : Result → Type ℓ) (cs : List Check) (before : Core) (done : Result)
-    → ((number : ℕ) → P (refused number before))
+-- A checked call either is refused with some number and leaves the core that goes with it, or passes every check and is done.
+pub checked-cases {ℓ} : (P : Result → Type ℓ) (cs : List Check) (left : ℕ → Core) (done : Result)
+    → ((number : ℕ) → P (refused number (left number)))
     → (Passed cs → P done)
-    → P (checked cs before done)
+    → P (checked cs left done)
 unfolding checked
-checked-cases P [] before done kept passed = passed tt
-checked-cases P (c ∷ cs) before done kept passed =
-    go (c .passed) (λ e. checked-cases P cs before done kept (λ more. passed (e, more)))
+checked-cases P [] left done kept passed = passed tt
+checked-cases P (c ∷ cs) left done kept passed =
+    go (c .passed) (λ e. checked-cases P cs left done kept (λ more. passed (e, more)))
   where
-    go : (b : Bool) → (b ≡ true → P (checked cs before done)) → P (cond b (checked cs before done) (refused (c .number) before))
+    go : (b : Bool)
+        → (b ≡ true → P (checked cs left done))
+        → P (cond b (checked cs left done) (refused (c .number) (left (c .number))))
     go true rest = rest refl
     go false rest = kept (c .number)
 
 -- two results of the same checks: what relates their refusals and what is done relates the results
-pub checked-rel {ℓ} : (R : Result → Result → Type ℓ) (cs : List Check) (b b′ : Core) (d d′ : Result)
-    → ((n : ℕ) → R (refused n b) (refused n b′)) → R d d′ → R (checked cs b d) (checked cs b′ d′)
+pub checked-rel {ℓ} : (R : Result → Result → Type ℓ) (cs : List Check) (b b′ : ℕ → Core) (d d′ : Result)
+    → ((n : ℕ) → R (refused n (b n)) (refused n (b′ n))) → R d d′ → R (checked cs b d) (checked cs b′ d′)
 unfolding checked
 checked-rel R [] b b′ d d′ r e = e
 checked-rel R (c ∷ cs) b b′ d d′ r e = go (c .passed) (checked-rel R cs b b′ d d′ r e)
   where
     go : (x : Bool) → R (checked cs b d) (checked cs b′ d′)
-        → R (cond x (checked cs b d) (refused (c .number) b)) (cond x (checked cs b′ d′) (refused (c .number) b′))
+        → R (cond x (checked cs b d) (refused (c .number) (b (c .number)))) (cond x (checked cs b′ d′) (refused (c .number) (b′ (c .number))))
     go true rest = rest
     go false rest = r (c .number)
 
@@ -46,17 +48,20 @@ checked-rel R (c ∷ cs) b b′ d d′ r e = go (c .passed) (checked-rel R cs b 
 pub refused-differs : {a : Answer} {n : ℕ} → a ≡ Refused n → a ≢ Accepted
 refused-differs e d = let z : _≡_ {A = ℕ} 0 1 = cc in omega arith
 
-module _ (cs : List Check) (before : Core) (s : State) where
-  -- a checked call that is accepted has the core that was to be made
-  pub checked-accepted : checked cs before (accepted s) .answer ≡ Accepted → checked cs before (accepted s) ≡ accepted s
-  checked-accepted =
-      checked-cases (λ r. r .answer ≡ Accepted → r ≡ accepted s) cs before (accepted s)
-      (λ n e. absurd (refused-differs refl e))
-      (λ passed e. refl)
+-- a checked call that is accepted has the core that was to be made
+pub checked-accepted : (cs : List Check) (left : ℕ → Core) (s : State)
+    → checked cs left (accepted s) .answer ≡ Accepted
+    → checked cs left (accepted s) ≡ accepted s
+checked-accepted cs left s =
+    checked-cases (λ r. r .answer ≡ Accepted → r ≡ accepted s) cs left (accepted s)
+    (λ n e. absurd (refused-differs refl e))
+    (λ passed e. refl)
 
-  -- and one that is not keeps the core
-  pub checked-kept : checked cs before (accepted s) .answer ≢ Accepted → checked cs before (accepted s) .core ≡ before
-  checked-kept =
-      checked-cases (λ r. r .answer ≢ Accepted → r .core ≡ before) cs before (accepted s)
-      (λ n e. refl)
-      (λ passed e. absurd (e refl))
+-- and one that is not keeps the core, where every refusal does
+pub checked-kept : (cs : List Check) (before : Core) (s : State)
+    → checked cs (unchanged before) (accepted s) .answer ≢ Accepted
+    → checked cs (unchanged before) (accepted s) .core ≡ before
+checked-kept cs before s =
+    checked-cases (λ r. r .answer ≢ Accepted → r .core ≡ before) cs (unchanged before) (accepted s)
+    (λ n e. refl)
+    (λ passed e. absurd (e refl))

@@ -11,13 +11,14 @@ use Rattle.definitions.specs.declared.Outcome.the-variants.{Real}
 use Rattle.definitions.specs.declared.Answer.the-variants.{Slot}
 use Rattle.definitions.specs.Sizes.{ids, firstCome}
 use Rattle.definitions.specs.Draw.{draw}
-use Rattle.definitions.specs.Client.{Kind, absent, indifferent, private, isActive, isIndifferent, isPrivate, Client, empty}
+use Rattle.definitions.specs.Client.{Kind, absent, indifferent, private, isActive, isIndifferent, isPrivate, Client}
+use Rattle.definitions.specs.Stock.{Stock, empty}
 use Rattle.definitions.specs.State.{State, earliest}
 use Rattle.definitions.specs.Tick.{contends, Rule, rule1, rule2, rule3, ruleOf, contenderRate, privateRate, Turn, firstTurn, turnBy, turn, padding, sent, outcomeBy, onTick}
 use Rattle.definitions.specs.Limits.{standing, ordered, StateLimits}
 use Rattle.definitions.specs.Facts.{Rule1Sends, Rule2Private}
 use Rattle.definitions.proofs.Laws.Tests.{lt-cases, cond-both}
-use Rattle.definitions.proofs.Laws.Clients.{private-kind}
+use Rattle.definitions.proofs.Laws.Kinds.{private-kind}
 use Rattle.definitions.proofs.Laws.Rules.{rule-cases, turn-rule}
 use Rattle.definitions.proofs.Draw.{weighing, draw-among}
 use Rattle.definitions.proofs.Limits.Order.{standing-first-same}
@@ -25,36 +26,36 @@ use Rattle.definitions.proofs.Limits.Client.{Parts, RateBy, limits-part
 use Rattle.definitions.proofs.Limits.Slots.{ordered-silent, ordered-high}
 pub use Rattle.definitions.specs.Facts.{Contender}
 
-pub contends-contender : (c : Client) → contends c ≡ true → Contender c
+pub contends-contender : (c : Client) (k : Stock) → contends c k ≡ true → Contender c k
 unfolding contends
-contends-contender c e = go (c .kind) (c .queue) refl refl e
+contends-contender c k e = go (c .kind) (k .queue) refl refl e
   where
-    go : (k : Kind) (q : List Packet) → c .kind ≡ k → c .queue ≡ q → (isIndifferent k && not (empty q)) ≡ true → Contender c
+    go : (x : Kind) (q : List Packet) → c .kind ≡ x → k .queue ≡ q → (isIndifferent x && not (empty q)) ≡ true → Contender c k
     go absent q f g e = absurd (false≢true e)
     go indifferent [] f g e = absurd (false≢true e)
     go indifferent (p ∷ ps) f g e = record { indifferently = f; packet = p; behind = ps; waiting = g }
     go private q f g e = absurd (false≢true e)
 
-contender-sent : (id : ℕ) (c : Client) (at : Contender c) → sent id c ≡ Real id (at .packet) 0
+contender-sent : (id : ℕ) (c : Client) (k : Stock) (at : Contender c k) → sent id c k ≡ Real id (at .packet) 0
 unfolding sent padding
-contender-sent id c at = rw (at .waiting, at .indifferently)
+contender-sent id c k at = rw (at .waiting, at .indifferently)
 
-contends-ordered : (c : Client) → contends c ≡ true → 0 < ordered c
+contends-ordered : (c : Client) (k : Stock) → contends c k ≡ true → 0 < ordered c k
 unfolding ordered
-contends-ordered c e =
-    let at = contends-contender c e in
+contends-ordered c k e =
+    let at = contends-contender c k e in
     rw (at .indifferently, at .waiting) (omega arith)
 
-ordered-contends : (c : Client) → 0 < ordered c → contends c ≡ true
-ordered-contends c some = go (contends c) refl
+ordered-contends : (c : Client) (k : Stock) → 0 < ordered c k → contends c k ≡ true
+ordered-contends c k some = go (contends c k) refl
   where
-    go : (b : Bool) → contends c ≡ b → contends c ≡ true
+    go : (b : Bool) → contends c k ≡ b → contends c k ≡ true
     go true e = e
-    go false e = absurd (omega (arith, ordered-silent c e))
+    go false e = absurd (omega (arith, ordered-silent c k e))
 
 -- the client whose slot it is, by each rule
 abbrev pub PickedBy : Rule → State → ℕ → Type 0
-PickedBy rule1 s id = (id < ids) × (contends (s .clients id) ≡ true)
+PickedBy rule1 s id = (id < ids) × (contends (s .clients id) (s .side .stocks id) ≡ true)
 PickedBy rule2 s id = (id < ids) × (isPrivate (s .clients id .kind) ≡ true)
 PickedBy rule3 s id = Unit {0}
 
@@ -76,43 +77,43 @@ module _ (s : State) (known : StateLimits s) where
   rated id = active-rate (s .clients id) (limits-parts (s .clients id) (known .clientLimits id))
 
   -- Discipline 0: where an indifferent packet waits, the order has a first, and that one waits.
-  earliest-picked : (id : ℕ) → contends (s .clients id) ≡ true → PickedBy rule1 s (earliest (s .order))
+  earliest-picked : (id : ℕ) → contends (s .clients id) (s .side .stocks id) ≡ true → PickedBy rule1 s (earliest (s .side .order))
   unfolding earliest standing
-  earliest-picked id waits = go (s .order) (known .orderWhole)
+  earliest-picked id waits = go (s .side .order) (known .sideLimits .orderWhole)
     where
-      go : (order : List ℕ) → ((j : ℕ) → standing j order ≡ ordered (s .clients j)) → PickedBy rule1 s (earliest order)
-      go [] whole = absurd (omega (arith, whole id, contends-ordered (s .clients id) waits))
+      go : (order : List ℕ) → ((j : ℕ) → standing j order ≡ ordered (s .clients j) (s .side .stocks j)) → PickedBy rule1 s (earliest order)
+      go [] whole = absurd (omega (arith, whole id, contends-ordered (s .clients id) (s .side .stocks id) waits))
       go (first ∷ rest) whole =
-          let some : 0 < ordered (s .clients first) = omega (arith, whole first, standing-first-same first first rest refl) in (
+          let some : 0 < ordered (s .clients first) (s .side .stocks first) = omega (arith, whole first, standing-first-same first first rest refl) in (
             lt-cases first ids (λ below. below) (λ high. absurd (omega (arith, some, ordered-high s known first high))),
-            ordered-contends (s .clients first) some,
+            ordered-contends (s .clients first) (s .side .stocks first) some,
           )
 
   -- Discipline 1: a draw among those with a packet waiting.
   contender-picked : (id : ℕ)
       → id < ids
-      → contends (s .clients id) ≡ true
-      → PickedBy rule1 s (draw (s .generator) (contenderRate (s .clients)) .id)
+      → contends (s .clients id) (s .side .stocks id) ≡ true
+      → PickedBy rule1 s (draw (s .side .generator) (contenderRate s) .id)
   unfolding contenderRate weighing
   contender-picked id below waits =
-      let indifferently = contends-contender (s .clients id) waits .indifferently in
-      draw-among (λ j. contends (s .clients j)) (λ j. s .clients j .rate) (s .generator) id below waits
+      let indifferently = contends-contender (s .clients id) (s .side .stocks id) waits .indifferently in
+      draw-among (λ j. contends (s .clients j) (s .side .stocks j)) (λ j. s .clients j .rate) (s .side .generator) id below waits
       (rated id (ap isActive indifferently))
 
   -- Rule 2: a draw among all private clients.
   private-picked : (id : ℕ)
       → id < ids
       → isPrivate (s .clients id .kind) ≡ true
-      → PickedBy rule2 s (draw (s .generator) (privateRate (s .clients)) .id)
+      → PickedBy rule2 s (draw (s .side .generator) (privateRate (s .clients)) .id)
   unfolding privateRate weighing
   private-picked id below secret =
-      draw-among (λ j. isPrivate (s .clients j .kind)) (λ j. s .clients j .rate) (s .generator) id below secret
+      draw-among (λ j. isPrivate (s .clients j .kind)) (λ j. s .clients j .rate) (s .side .generator) id below secret
       (rated id (private-active (s .clients id .kind) secret))
 
-  pub turn-picked : PickedBy (ruleOf (s .clients)) s (turn s .id)
+  pub turn-picked : PickedBy (ruleOf s) s (turn s .id)
   unfolding turn turnBy firstTurn
   turn-picked =
-      rule-cases (λ rule. PickedBy rule s (turnBy rule s .id)) (s .clients)
+      rule-cases (λ rule. PickedBy rule s (turnBy rule s .id)) s
       (λ id below waits. cond-both (λ (t : Turn). PickedBy rule1 s (t .id)) (eqb (s .discipline) firstCome)
       (earliest-picked id waits)
       (contender-picked id below waits))
@@ -120,18 +121,18 @@ module _ (s : State) (known : StateLimits s) where
       (λ none noneSecret. tt)
 
   -- whom rule 1 picks
-  module _ (e : ruleOf (s .clients) ≡ rule1) where
+  module _ (e : ruleOf s ≡ rule1) where
     rule1-picked : PickedBy rule1 s (turn s .id)
     rule1-picked = subst (λ (r : Rule). PickedBy r s (turn s .id)) e turn-picked
 
     pub rule1-below : turn s .id < ids
     rule1-below = rule1-picked .0
 
-    pub rule1-contender : Contender (s .clients (turn s .id))
-    rule1-contender = contends-contender (s .clients (turn s .id)) (rule1-picked .1)
+    pub rule1-contender : Contender (s .clients (turn s .id)) (s .side .stocks (turn s .id))
+    rule1-contender = contends-contender (s .clients (turn s .id)) (s .side .stocks (turn s .id)) (rule1-picked .1)
 
   -- whom rule 2 picks
-  module _ (e : ruleOf (s .clients) ≡ rule2) where
+  module _ (e : ruleOf s ≡ rule2) where
     rule2-picked : PickedBy rule2 s (turn s .id)
     rule2-picked = subst (λ (r : Rule). PickedBy r s (turn s .id)) e turn-picked
 
@@ -144,8 +145,8 @@ rule1-answer s known e =
     let picked = rule1-contender s known e in (
       picked,
       ap Slot
-          (ap (λ (r : Rule). outcomeBy r (turn s .id) (s .clients)) (turn-rule s ∙ e)
-          ∙ contender-sent (turn s .id) (s .clients (turn s .id)) picked),
+          (ap (λ (r : Rule). outcomeBy r (turn s .id) s) (turn-rule s ∙ e)
+          ∙ contender-sent (turn s .id) (s .clients (turn s .id)) (s .side .stocks (turn s .id)) picked),
     )
 
 pub rule2-private : Rule2Private

@@ -12,11 +12,11 @@ use Rattle.definitions.specs.State.{Core, unopened, running}
 use Rattle.definitions.specs.Answers.{isDeparture}
 use Rattle.definitions.specs.Tick.{Turn}
 use Rattle.definitions.specs.Core.{step}
-use Rattle.definitions.specs.History.{History, start, _then_, calls, pickBy, pickOf, clientOf, Dealing, Trace, scheduler, after, answerAt, dealingAt, traceOf}
+use Rattle.definitions.specs.History.{History, start, _then_, calls, pickBy, pickOf, drawsOf, clientOf, stockOf, Dealing, Trace, scheduler, after, answerAt, dealingAt, traceOf}
 use Rattle.definitions.specs.Sameness.{isTick, indifferentAt, isStruck, kept, log}
 use borrow.Author.Tests.{not-true}
 use Rattle.definitions.proofs.Laws.Tests.{true-false, and-both}
-use Rattle.definitions.proofs.Sameness.Erase.{hidden, hidden-kind, hideIf, hide, hide-open, erase, eraseCore}
+use Rattle.definitions.proofs.Sameness.Erase.{hidden, shown-open, erase, eraseCore}
 use Rattle.definitions.proofs.Sameness.Calls.{Alike, open-alike, join-alike, change-alike, leave-alike, load-alike, arrive-alike, load-struck, arrive-struck}
 use Rattle.definitions.proofs.Sameness.Slot.{turn-erased, tick-departure, tick-answer, tick-cores}
 use Rattle.definitions.proofs.Sameness.Kinds.{trace, dealt, holdsIndifferent, indifferent-held}
@@ -70,21 +70,20 @@ module _ (chosen : ℕ) where
     pub cores : eraseCore chosen (after scheduler h) ≡ eraseCore chosen (after scheduler k)
     pub keeps : kept chosen (trace h) ≡ kept chosen (trace k)
 
-  erase-kind : (core : Core) (id : ℕ) → clientOf (eraseCore chosen core) id .kind ≡ clientOf core id .kind
-  unfolding eraseCore clientOf erase hide hideIf
-  erase-kind unopened id = refl
-  erase-kind (running s) id = refl
+  -- clients are not erased
+  erase-client : (core : Core) (id : ℕ) → clientOf (eraseCore chosen core) id ≡ clientOf core id
+  unfolding eraseCore clientOf erase
+  erase-client unopened id = refl
+  erase-client (running s) id = refl
 
-  alike-kind : {h k : History} → AlikeAt h k → (id : ℕ) → clientOf (after scheduler h) id .kind ≡ clientOf (after scheduler k) id .kind
-  alike-kind {h} {k} a id =
-      sym (erase-kind (after scheduler h) id)
-      ∙ ap (λ (z : Core). clientOf z id .kind) (a .cores)
-      ∙ erase-kind (after scheduler k) id
+  pub alike-client : {h k : History} → AlikeAt h k → (id : ℕ) → clientOf (after scheduler h) id ≡ clientOf (after scheduler k) id
+  alike-client {h} {k} a id =
+      sym (erase-client (after scheduler h) id) ∙ ap (λ (z : Core). clientOf z id) (a .cores) ∙ erase-client (after scheduler k) id
 
   pub alike-indifferent : {h k : History} → AlikeAt h k → (id : ℕ) → indifferentAt id (trace h) ≡ indifferentAt id (trace k)
   unfolding holdsIndifferent
   alike-indifferent {h} {k} a id =
-      indifferent-held id h ∙ ap isIndifferent (alike-kind a id) ∙ sym (indifferent-held id k)
+      indifferent-held id h ∙ ap (λ (c : Client). isIndifferent (c .kind)) (alike-client a id) ∙ sym (indifferent-held id k)
 
   alike-struck : {h k : History} → AlikeAt h k → (c : Event) → isStruck chosen (trace h) c ≡ isStruck chosen (trace k) c
   unfolding isStruck
@@ -187,12 +186,20 @@ module _ (chosen : ℕ) where
       step-alike (after scheduler h) (after scheduler k) c (a .cores) (kept-seen h c e) (kept-seen k c (sym (alike-struck a c) ∙ e)) .answers n
 
   pick-erased : (core : Core) → pickOf (eraseCore chosen core) ≡ pickOf core
-  unfolding pickOf eraseCore
+  unfolding eraseCore
   pick-erased unopened = refl
   pick-erased (running s) = ap (λ (t : Turn). pickBy (t .rule) (t .id)) (turn-erased chosen s)
 
   pub alike-pick : {h k : History} → AlikeAt h k → pickOf (after scheduler h) ≡ pickOf (after scheduler k)
   alike-pick {h} {k} a = sym (pick-erased (after scheduler h)) ∙ ap pickOf (a .cores) ∙ pick-erased (after scheduler k)
+
+  draws-erased : (core : Core) → drawsOf (eraseCore chosen core) ≡ drawsOf core
+  unfolding eraseCore
+  draws-erased unopened = refl
+  draws-erased (running s) = ap (λ (t : Turn). t .draws) (turn-erased chosen s)
+
+  pub alike-draws : {h k : History} → AlikeAt h k → drawsOf (after scheduler h) ≡ drawsOf (after scheduler k)
+  alike-draws {h} {k} a = sym (draws-erased (after scheduler h)) ∙ ap drawsOf (a .cores) ∙ draws-erased (after scheduler k)
 
   departure-erased : (core : Core) (id : ℕ) → isDeparture id (step core Tick .answer) ≡ isDeparture id (step (eraseCore chosen core) Tick .answer)
   unfolding step eraseCore
@@ -216,7 +223,7 @@ module _ (chosen : ℕ) where
   -- the same client is hidden
   alike-hidden : {h k : History} → AlikeAt h k → (id : ℕ)
       → hidden chosen id (clientOf (after scheduler h) id) ≡ hidden chosen id (clientOf (after scheduler k) id)
-  alike-hidden {h} {k} a id = hidden-kind chosen id (clientOf (after scheduler h) id) (clientOf (after scheduler k) id) (alike-kind a id)
+  alike-hidden {h} {k} a id = ap (hidden chosen id) (alike-client a id)
 
   module _ {h k : History} (a : AlikeAt h k) (id : ℕ) (e : hidden chosen id (clientOf (after scheduler h) id) ≡ false) where
     pub alike-departed : isDeparture id (answerAt scheduler h Tick) ≡ true → answerAt scheduler h Tick ≡ answerAt scheduler k Tick
@@ -226,16 +233,16 @@ module _ (chosen : ℕ) where
         ∙ ap (λ (z : Core). step z Tick .answer) (a .cores)
         ∙ sym (departed-erased (after scheduler k) id (sym (alike-hidden a id) ∙ e) (sym (alike-departure a id) ∙ d))
 
-    client-erased : (core : Core) → hidden chosen id (clientOf core id) ≡ false → clientOf (eraseCore chosen core) id ≡ clientOf core id
-    unfolding clientOf eraseCore erase
-    client-erased unopened q = refl
-    client-erased (running s) q = hide-open chosen id (s .clients id) q
+    stock-erased : (core : Core) → hidden chosen id (clientOf core id) ≡ false → stockOf (eraseCore chosen core) id ≡ stockOf core id
+    unfolding clientOf stockOf eraseCore erase
+    stock-erased unopened q = refl
+    stock-erased (running s) q = shown-open chosen (s .clients) (s .side .stocks) id q
 
-    pub alike-client : clientOf (after scheduler h) id ≡ clientOf (after scheduler k) id
-    alike-client =
-        sym (client-erased (after scheduler h) e)
-        ∙ ap (λ (z : Core). clientOf z id) (a .cores)
-        ∙ client-erased (after scheduler k) (sym (alike-hidden a id) ∙ e)
+    pub alike-stock : stockOf (after scheduler h) id ≡ stockOf (after scheduler k) id
+    alike-stock =
+        sym (stock-erased (after scheduler h) e)
+        ∙ ap (λ (z : Core). stockOf z id) (a .cores)
+        ∙ stock-erased (after scheduler k) (sym (alike-hidden a id) ∙ e)
 
   -- ---- what is logged
 

@@ -7,18 +7,20 @@ use mathlib.Core.List.{List}
 use lib.Dec.{eqb}
 use Rattle.definitions.specs.Event.{Event, Open, Join, Change, Leave, Load, Arrive, Tick}
 use Rattle.definitions.specs.Sizes.{indifferentKind}
-use Rattle.definitions.specs.Client.{Client, isIndifferent, kindOf, sameKind, nobody, joining, retuned, changed, loaded, queued, spent, refilled}
-use Rattle.definitions.specs.State.{State, Core, unopened, running, fresh, put, without}
+use Rattle.definitions.specs.Client.{Client, isIndifferent, kindOf, sameKind, nobody, joining, retuned, changed, charged, refilled}
+use Rattle.definitions.specs.Stock.{bare, loaded}
+use Rattle.definitions.specs.State.{State, Core, unopened, running, fresh, updated, put, stocked, emptied}
 use Rattle.definitions.specs.Answers.{isAccepted}
-use Rattle.definitions.specs.Checks.{Result, Check, checked, accepted, openChecks, joinChecks, changeChecks, leaveChecks, loadChecks, arriveChecks}
-use Rattle.definitions.specs.Calls.{onOpen, updated, onJoin, orderAfterChange, onChange, onLeave, onLoad, orderAfterArrival, onArrive}
-use Rattle.definitions.specs.Tick.{turn, refillAll, slotted, onTick}
+use Rattle.definitions.specs.Checks.{Result, Check, checked, unchanged, accepted, openChecks, joinChecks, changeChecks, leaveChecks, loadChecks, arriveChecks}
+use Rattle.definitions.specs.Calls.{onOpen, onJoin, sideAfterChange, onChange, onLeave, onLoad, sideAfterArrival, onArrive}
+use Rattle.definitions.specs.Tick.{refillAll, slotted, onTick}
 use Rattle.definitions.specs.Core.{step}
 use Rattle.definitions.specs.History.{History, start, _then_, Dealing, Trace, clientOf, scheduler, after, answerAt, dealingAt, traceOf}
 use Rattle.definitions.specs.Sameness.{indifferentBy, indifferentAt}
 use Rattle.definitions.proofs.Laws.Tests.{eqb-comm}
 use Rattle.definitions.proofs.Laws.Checked.{checked-cases}
-use Rattle.definitions.proofs.Laws.Clients.{put-keeps, sent-keeps, sameKind-true, kindOf-indifferent}
+use Rattle.definitions.proofs.Laws.Kinds.{sameKind-true, kindOf-indifferent}
+use Rattle.definitions.proofs.Laws.Clients.{put-keeps}
 
 -- what the calls of a history get, as they are defined
 abbrev pub trace : History → Trace
@@ -39,10 +41,10 @@ module _ (id : ℕ) (s : State) where
   -- a checked call: a refusal changes nothing, so what is left is the call when accepted
   told-checked : (c : Event) (cs : List Check) (t : State)
       → isIndifferent (t .clients id .kind) ≡ indifferentBy id c (isIndifferent (s .clients id .kind))
-      → Told id c (isIndifferent (s .clients id .kind)) (checked cs (running s) (accepted t))
+      → Told id c (isIndifferent (s .clients id .kind)) (checked cs (unchanged (running s)) (accepted t))
   unfolding holdsIndifferent clientOf isAccepted
   told-checked c cs t e =
-      checked-cases (Told id c (isIndifferent (s .clients id .kind))) cs (running s) (accepted t) (λ n. refl) (λ passed. e)
+      checked-cases (Told id c (isIndifferent (s .clients id .kind))) cs (unchanged (running s)) (accepted t) (λ n. refl) (λ passed. e)
 
   -- the client at an id after one client was put
   put-indifferent : (other : ℕ) (c : Client) → isIndifferent (put (s .clients) other c id .kind) ≡ cond (eqb other id) (isIndifferent (c .kind)) (isIndifferent (s .clients id .kind))
@@ -62,35 +64,30 @@ module _ (id : ℕ) (s : State) where
       go true e = ap isIndifferent (sameKind-true (c .kind) (kindOf kind) e)
       go false e = refl
 
-  tick-kind : slotted s (turn s) .clients id .kind ≡ s .clients id .kind
-  unfolding slotted refillAll refilled spent
-  tick-kind = sent-keeps (λ (c : Client). c .kind) (λ c. refl) (turn s .rule) (turn s .id) (s .clients) id
-
   told-running : (c : Event) → Told id c (isIndifferent (s .clients id .kind)) (step (running s) c)
-  unfolding step onOpen onJoin onChange onLeave onLoad onArrive onTick updated indifferentBy joining loaded queued fresh
+  unfolding step onOpen onJoin onChange onLeave onLoad onArrive onTick updated slotted refillAll refilled indifferentBy joining charged fresh
       holdsIndifferent clientOf isAccepted
   told-running (Open t d v) = told-checked (Open t d v) (openChecks t d v) (fresh t d v) refl
   told-running (Join j k r b) =
-      told-checked (Join j k r b) (joinChecks s j k r b) (updated s j (joining k r b) (s .order))
+      told-checked (Join j k r b) (joinChecks s j k r b) (updated s (put (s .clients) j (joining k r b)) (stocked (s .side) j bare))
       (put-indifferent j (joining k r b) ∙ rw (kindOf-indifferent k))
   told-running (Change j k r b) =
-      told-checked (Change j k r b) (changeChecks s j k r b) (updated s j (changed (s .clients j) k r b) (orderAfterChange s j k))
+      told-checked (Change j k r b) (changeChecks s j k r b) (updated s (put (s .clients) j (changed (s .clients j) k r b)) (sideAfterChange s j k))
       (put-indifferent j (changed (s .clients j) k r b) ∙ rw (changed-indifferent (s .clients j) k r b))
   told-running (Leave j) =
-      told-checked (Leave j) (leaveChecks s j) (updated s j nobody (without j (s .order))) (put-indifferent j nobody)
+      told-checked (Leave j) (leaveChecks s j) (updated s (put (s .clients) j nobody) (emptied (s .side) j)) (put-indifferent j nobody)
   told-running (Load j n) =
-      told-checked (Load j n) (loadChecks s j n) (updated s j (loaded (s .clients j) n) (s .order))
-      (ap isIndifferent (put-keeps (λ (c : Client). c .kind) (s .clients) j (loaded (s .clients j) n) refl id))
+      told-checked (Load j n) (loadChecks s j n) (updated s (s .clients) (stocked (s .side) j (loaded (s .side .stocks j) n))) refl
   told-running (Arrive j p) =
-      told-checked (Arrive j p) (arriveChecks s j p) (updated s j (queued (s .clients j) p) (orderAfterArrival s j))
-      (ap isIndifferent (put-keeps (λ (c : Client). c .kind) (s .clients) j (queued (s .clients j) p) refl id))
-  told-running Tick = ap isIndifferent tick-kind
+      told-checked (Arrive j p) (arriveChecks s j p) (updated s (put (s .clients) j (charged (s .clients j))) (sideAfterArrival s j p))
+      (ap isIndifferent (put-keeps (s .clients) j (charged (s .clients j)) (λ (c : Client). c .kind) refl id))
+  told-running Tick = refl
 
 told : (id : ℕ) (core : Core) (c : Event) → Told id c (holdsIndifferent id core) (step core c)
 unfolding holdsIndifferent clientOf step onOpen isAccepted fresh indifferentBy
 told id (running s) c = told-running id s c
 told id unopened (Open t d v) =
-    checked-cases (Told id (Open t d v) false) (openChecks t d v) unopened (accepted (fresh t d v)) (λ n. refl) (λ passed. refl)
+    checked-cases (Told id (Open t d v) false) (openChecks t d v) (unchanged unopened) (accepted (fresh t d v)) (λ n. refl) (λ passed. refl)
 told id unopened (Join j k r b) = refl
 told id unopened (Change j k r b) = refl
 told id unopened (Leave j) = refl

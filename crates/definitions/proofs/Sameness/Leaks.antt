@@ -12,7 +12,7 @@ use Rattle.definitions.specs.Answers.{shown}
 use Rattle.definitions.specs.History.{History, start, _then_, end, Pick, noSlot, byRule1, byRule2, byRule3, after, answerAt, dealingAt, traceOf}
 use Rattle.definitions.specs.Sameness.{isTick, names, indifferentBy, indifferentAt, isStruck, kept, log, departure, Sameness}
 use Rattle.definitions.specs.Altered.{withTick, slotBy, withArrive, tokenLeft, arriveIf, withChange}
-use Rattle.definitions.specs.Leaks.{waitingOnly, turnOfWaiting, drawnAmongWaiting, nextPrivate, idles, turnHandedOn, idleHandedOn, roomInStore, oneStore, queueKept, orderKept, changeKeeping, queueOverChange, Leaking}
+use Rattle.definitions.specs.Leaks.{waitingOnly, turnOfWaiting, drawnAmongWaiting, nextPrivate, idles, turnHandedOn, idleHandedOn, roomInStore, oneStore, orderKept, sideKept, changeKeeping, queueOverChange, Leaking}
 use Rattle.definitions.proofs.Everything.{everything}
 
 -- two private clients, and what the second may do unseen
@@ -66,7 +66,7 @@ store-leaks claim =
 
 -- 5's packet of its private time goes first once 5 is indifferent
 queue-leaks : Sameness queueOverChange → ⊥
-unfolding computed withChange changeKeeping queueKept orderKept
+unfolding computed withChange changeKeeping orderKept sideKept
 queue-leaks claim =
     let H = quiet then Change 5 indifferentKind 100 1 then Tick in
     let K = busy 1 then Change 5 indifferentKind 100 1 then Tick in

@@ -7,24 +7,29 @@ use mathlib.Core.List.{List, [], _∷_}
 use lib.Dec.{eqb}
 use Rattle.definitions.specs.Event.{Event, Open, Join, Change, Leave, Load, Arrive, Tick}
 use Rattle.definitions.specs.declared.Answer.{Answer}
-use Rattle.definitions.specs.Client.{Client, kindOf, sameKind, nobody, joining, retuned, changed, loaded, queued, spent, refilled}
-use Rattle.definitions.specs.State.{State, Core, unopened, running, fresh, put, without}
-use Rattle.definitions.specs.Checks.{Result, Check, accepted, checked, activeRate, rates, openChecks, joinChecks, activeChecks, changeChecks, leaveChecks, loadChecks, arriveChecks}
-use Rattle.definitions.specs.Calls.{onOpen, updated, onJoin, orderAfterChange, onChange, onLeave, onLoad, orderAfterArrival, onArrive}
+use Rattle.definitions.specs.Client.{Client, kindOf, sameKind, nobody, joining, retuned, changed, charged, refilled}
+use Rattle.definitions.specs.Stock.{bare, loaded}
+use Rattle.definitions.specs.State.{Side, State, Core, unopened, running, fresh, updated, put, stocked, emptied}
+use Rattle.definitions.specs.Checks.{Result, Check, accepted, checked, unchanged, activeRate, rates, openChecks, joinChecks, activeChecks, changeChecks, leaveChecks, loadChecks, arriveChecks}
+use Rattle.definitions.specs.Calls.{onOpen, onJoin, sideAfterChange, onChange, onLeave, onLoad, sideAfterArrival, onArrive}
 use Rattle.definitions.specs.Tick.{turn, refillAll, slotted, onTick}
 use Rattle.definitions.specs.Core.{step}
 use Rattle.definitions.specs.History.{History, start, _then_, scheduler, after, answerAt}
 use Rattle.definitions.specs.Sameness.{isSetting, settingsOf, settingAnswers, SettingsAlone}
 use Rattle.definitions.proofs.Laws.Tests.{true-false}
 use Rattle.definitions.proofs.Laws.Checked.{checked-cases, checked-rel}
-use Rattle.definitions.proofs.Laws.Clients.{put-keeps, sent-keeps}
+use Rattle.definitions.proofs.Laws.Clients.{put-keeps}
 
 -- a client as its kind and rate
 unfoldable pub sketched : Client → Client
-sketched c = record { kind = c .kind; rate = c .rate; burst = 0; level = 0; pool = 0; queue = [] }
+sketched c = record { kind = c .kind; rate = c .rate; burst = 0; level = 0 }
+
+-- a side of which nothing is known
+abbrev blank : Side
+blank = record { generator = 0; order = []; stocks = λ id. bare }
 
 unfoldable pub outline : State → State
-outline s = record { threshold = s .threshold; discipline = 0; generator = 0; clients = λ id. sketched (s .clients id); order = [] }
+outline s = record { threshold = s .threshold; discipline = 0; clients = λ id. sketched (s .clients id); side = blank }
 
 unfoldable pub outlineCore : Core → Core
 outlineCore unopened = unopened
@@ -32,7 +37,7 @@ outlineCore (running s) = running (outline s)
 
 outline-path : (s t : State) → s .threshold ≡ t .threshold → ((id : ℕ) → sketched (s .clients id) ≡ sketched (t .clients id)) → outline s ≡ outline t
 unfolding outline
-outline-path s t p e = λ i. record { threshold = p i; discipline = 0; generator = 0; clients = λ id. e id i; order = [] }
+outline-path s t p e = λ i. record { threshold = p i; discipline = 0; clients = λ id. e id i; side = blank }
 
 -- the same answer, and cores of the same outline
 record Alike (r q : Result) : Type 0 where
@@ -40,12 +45,13 @@ record Alike (r q : Result) : Type 0 where
   cores : outlineCore (r .core) ≡ outlineCore (q .core)
 
 -- one client anew, in a state and in its outline
-updated-outline : (s : State) (id : ℕ) (c d : Client) (o p : List ℕ)
+updated-outline : (s : State) (id : ℕ) (c d : Client) (x y : Side)
     → sketched c ≡ sketched d
-    → outline (updated s id c o) ≡ outline (updated (outline s) id d p)
+    → outline (updated s (put (s .clients) id c) x) ≡ outline (updated (outline s) (put (outline s .clients) id d) y)
 unfolding updated outline sketched put
-updated-outline s id c d o p e =
-    outline-path (updated s id c o) (updated (outline s) id d p) refl (λ j. go j (eqb j id))
+updated-outline s id c d x y e =
+    outline-path (updated s (put (s .clients) id c) x) (updated (outline s) (put (outline s .clients) id d) y) refl
+    (λ j. go j (eqb j id))
   where
     go : (j : ℕ) (b : Bool) → sketched (cond b c (s .clients j)) ≡ sketched (cond b d (sketched (s .clients j)))
     go j true = e
@@ -53,10 +59,10 @@ updated-outline s id c d o p e =
 
 checked-alike : (s : State) (cs : List Check) (t u : State)
     → outline t ≡ outline u
-    → Alike (checked cs (running s) (accepted t)) (checked cs (running (outline s)) (accepted u))
+    → Alike (checked cs (unchanged (running s)) (accepted t)) (checked cs (unchanged (running (outline s))) (accepted u))
 unfolding outlineCore outline sketched
 checked-alike s cs t u e =
-    checked-rel Alike cs (running s) (running (outline s)) (accepted t) (accepted u)
+    checked-rel Alike cs (unchanged (running s)) (unchanged (running (outline s))) (accepted t) (accepted u)
     (λ n. record { answers = refl; cores = refl })
     (record { answers = refl; cores = ap running e })
 
@@ -74,30 +80,33 @@ changed-sketched c kind rate burst = go (sameKind (c .kind) (kindOf kind))
 -- an open, join, change or leave on a core and on its outline
 setting-alike : (core : Core) (c : Event) → isSetting c ≡ true → Alike (step core c) (step (outlineCore core) c)
 unfolding step outlineCore outline sketched isSetting onOpen onJoin onChange onLeave joinChecks changeChecks leaveChecks activeChecks
-    rates activeRate orderAfterChange
+    rates activeRate
 setting-alike unopened c e = record { answers = refl; cores = refl }
 setting-alike (running s) (Open t d v) e =
-    checked-rel Alike (openChecks t d v) (running s) (running (outline s)) (accepted (fresh t d v)) (accepted (fresh t d v))
+    checked-rel Alike (openChecks t d v) (unchanged (running s)) (unchanged (running (outline s))) (accepted (fresh t d v))
+    (accepted (fresh t d v))
     (λ n. record { answers = refl; cores = refl })
     (record { answers = refl; cores = refl })
 setting-alike (running s) (Join j k r b) e =
-    checked-alike s (joinChecks s j k r b) (updated s j (joining k r b) (s .order)) (updated (outline s) j (joining k r b) [])
-    (updated-outline s j (joining k r b) (joining k r b) (s .order) [] refl)
+    checked-alike s (joinChecks s j k r b) (updated s (put (s .clients) j (joining k r b)) (stocked (s .side) j bare))
+    (updated (outline s) (put (outline s .clients) j (joining k r b)) (stocked blank j bare))
+    (updated-outline s j (joining k r b) (joining k r b) (stocked (s .side) j bare) (stocked blank j bare) refl)
 setting-alike (running s) (Change j k r b) e =
-    checked-alike s (changeChecks s j k r b) (updated s j (changed (s .clients j) k r b) (orderAfterChange s j k))
-    (updated (outline s) j (changed (sketched (s .clients j)) k r b) (orderAfterChange (outline s) j k))
-    (updated-outline s j (changed (s .clients j) k r b) (changed (sketched (s .clients j)) k r b) (orderAfterChange s j k)
-    (orderAfterChange (outline s) j k) (changed-sketched (s .clients j) k r b))
+    checked-alike s (changeChecks s j k r b) (updated s (put (s .clients) j (changed (s .clients j) k r b)) (sideAfterChange s j k))
+    (updated (outline s) (put (outline s .clients) j (changed (sketched (s .clients j)) k r b)) (sideAfterChange (outline s) j k))
+    (updated-outline s j (changed (s .clients j) k r b) (changed (sketched (s .clients j)) k r b) (sideAfterChange s j k)
+    (sideAfterChange (outline s) j k) (changed-sketched (s .clients j) k r b))
 setting-alike (running s) (Leave j) e =
-    checked-alike s (leaveChecks s j) (updated s j nobody (without j (s .order))) (updated (outline s) j nobody (without j []))
-    (updated-outline s j nobody nobody (without j (s .order)) (without j []) refl)
+    checked-alike s (leaveChecks s j) (updated s (put (s .clients) j nobody) (emptied (s .side) j))
+    (updated (outline s) (put (outline s .clients) j nobody) (emptied blank j))
+    (updated-outline s j nobody nobody (emptied (s .side) j) (emptied blank j) refl)
 setting-alike (running s) (Load j n) e = true-false e refl
 setting-alike (running s) (Arrive j p) e = true-false e refl
 setting-alike (running s) Tick e = true-false e refl
 
 -- any other call keeps the outline
 other-kept : (core : Core) (c : Event) → isSetting c ≡ false → outlineCore (step core c .core) ≡ outlineCore core
-unfolding step outlineCore isSetting onLoad onArrive onTick updated loaded queued slotted refillAll refilled spent sketched
+unfolding step outlineCore outline isSetting onLoad onArrive onTick updated charged slotted refillAll refilled sketched
 other-kept unopened (Open t d v) e = true-false refl e
 other-kept unopened (Join j k r b) e = refl
 other-kept unopened (Change j k r b) e = refl
@@ -110,20 +119,17 @@ other-kept (running s) (Join j k r b) e = true-false refl e
 other-kept (running s) (Change j k r b) e = true-false refl e
 other-kept (running s) (Leave j) e = true-false refl e
 other-kept (running s) (Load j n) e =
-    checked-cases (λ r. outlineCore (r .core) ≡ running (outline s)) (loadChecks s j n) (running s)
-    (accepted (updated s j (loaded (s .clients j) n) (s .order)))
+    checked-cases (λ r. outlineCore (r .core) ≡ running (outline s)) (loadChecks s j n) (unchanged (running s))
+    (accepted (updated s (s .clients) (stocked (s .side) j (loaded (s .side .stocks j) n))))
     (λ m. refl)
-    (λ passed. ap running (outline-path (updated s j (loaded (s .clients j) n) (s .order)) s refl
-    (put-keeps sketched (s .clients) j (loaded (s .clients j) n) refl)))
+    (λ passed. refl)
 other-kept (running s) (Arrive j p) e =
-    checked-cases (λ r. outlineCore (r .core) ≡ running (outline s)) (arriveChecks s j p) (running s)
-    (accepted (updated s j (queued (s .clients j) p) (orderAfterArrival s j)))
+    checked-cases (λ r. outlineCore (r .core) ≡ running (outline s)) (arriveChecks s j p) (unchanged (running s))
+    (accepted (updated s (put (s .clients) j (charged (s .clients j))) (sideAfterArrival s j p)))
     (λ m. refl)
-    (λ passed. ap running (outline-path (updated s j (queued (s .clients j) p) (orderAfterArrival s j)) s refl
-    (put-keeps sketched (s .clients) j (queued (s .clients j) p) refl)))
-other-kept (running s) Tick e =
-    ap running (outline-path (slotted s (turn s)) s refl
-    (sent-keeps (λ (c : Client). sketched (refilled c)) (λ c. refl) (turn s .rule) (turn s .id) (s .clients)))
+    (λ passed. ap running (outline-path (updated s (put (s .clients) j (charged (s .clients j))) (sideAfterArrival s j p)) s refl
+    (put-keeps (s .clients) j (charged (s .clients j)) sketched refl)))
+other-kept (running s) Tick e = ap running (outline-path (slotted s (turn s)) s refl (λ id. refl))
 
 -- ---- histories
 

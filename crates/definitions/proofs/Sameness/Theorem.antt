@@ -10,13 +10,14 @@ use borrow.Author.Tests.{eqb-true}
 use Rattle.definitions.specs.Event.{Event, Open, Join, Change, Leave, Load, Arrive, Tick}
 use Rattle.definitions.specs.declared.Answer.{Answer}
 use Rattle.definitions.specs.Client.{Client}
+use Rattle.definitions.specs.Stock.{Stock}
 use Rattle.definitions.specs.Answers.{number, isDeparture}
-use Rattle.definitions.specs.History.{History, _then_, Place, end, before, calls, clientOf, Trace, holdingsOf, scheduler, after, answerAt, dealingAt, traceOf}
+use Rattle.definitions.specs.History.{History, _then_, Place, end, before, calls, clientOf, stockOf, Trace, holdingsOf, scheduler, after, answerAt, dealingAt, traceOf}
 use Rattle.definitions.specs.Sameness.{isSetting, isTick, isArrival, names, indifferentAt, isStruck, kept, departure, drop, SameDealings, SameHoldings, LooksSame, Sameness}
 use Rattle.definitions.proofs.Laws.Tests.{T-true, true-false, and-both, eqb-same}
 use Rattle.definitions.proofs.Sameness.Erase.{hidden}
 use Rattle.definitions.proofs.Sameness.Kinds.{trace, holdsIndifferent, indifferent-held}
-use Rattle.definitions.proofs.Sameness.Histories.{AlikeAt, alike-indifferent, alike-answer, alike-pick, alike-departure, alike-departed, alike-client, hidden-not, alike-through, Logged, log-same}
+use Rattle.definitions.proofs.Sameness.Histories.{AlikeAt, alike-indifferent, alike-answer, alike-pick, alike-draws, alike-departure, alike-departed, alike-client, alike-stock, hidden-not, alike-through, Logged, log-same}
 
 -- ---- places
 
@@ -181,13 +182,13 @@ module _ (chosen : ℕ) where
         → SameHoldings id (holdingsOf (after scheduler h)) (holdingsOf (after scheduler k))
     unfolding holdsIndifferent holdingsOf
     holdings-same h k a w = record {
-      queue = ap (λ (c : Client). c .queue) same;
-      pool = ap (λ (c : Client). c .pool) same;
-      level = ap (λ (c : Client). c .level) same;
+      queue = ap (λ (x : Stock). x .queue) same;
+      pool = ap (λ (x : Stock). x .pool) same;
+      level = ap (λ (c : Client). c .level) (alike-client chosen a id);
     }
       where
-        same : clientOf (after scheduler h) id ≡ clientOf (after scheduler k) id
-        same = alike-client chosen a id (hidden-not chosen id (clientOf (after scheduler h) id) (rw (indifferent-held id h) at w))
+        same : stockOf (after scheduler h) id ≡ stockOf (after scheduler k) id
+        same = alike-stock chosen a id (hidden-not chosen id (clientOf (after scheduler h) id) (rw (indifferent-held id h) at w))
 
   -- ---- the settings and the slots
 
@@ -216,6 +217,14 @@ module _ (chosen : ℕ) where
     shows-alike = λ a c e w. alike-pick chosen a;
   }
 
+  draws-logged : Logged chosen (λ p d. isTick (d .event)) (λ d. d .draws)
+  unfolding dealingAt
+  draws-logged = record {
+    struckOut = not-tick-struck;
+    which-alike = λ a c e. refl;
+    shows-alike = λ a c e w. alike-draws chosen a;
+  }
+
   -- ---- all of it, at two places with the same kept calls behind them
 
   looks-same : (h k : History) → kept chosen (trace h) ≡ kept chosen (trace k)
@@ -223,6 +232,7 @@ module _ (chosen : ℕ) where
   looks-same h k e = record {
     settings = log-same chosen (λ p d. isSetting (d .event)) (λ d. d .answer) settings-logged h k e;
     slots = log-same chosen (λ p d. isTick (d .event)) (λ d. d .pick) slots-logged h k e;
+    draws = log-same chosen (λ p d. isTick (d .event)) (λ d. d .draws) draws-logged h k e;
     chosenDealings = dealings-same chosen (λ p. true) (λ p q a. refl) (λ p w. own p) h k e;
     chosenHoldings = holdings-same chosen h k alike (own h);
     indifferentAlike = alike-indifferent chosen alike;
