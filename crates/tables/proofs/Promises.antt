@@ -10,7 +10,7 @@ use lib.Dec.{T, eqb}
 use Rattle.definitions.specs.Event.{Event}
 use Rattle.definitions.specs.declared.Answer.the-variants.{Accepted, Refused}
 use Rattle.definitions.specs.State.{State, Core, running, unopened}
-use Rattle.definitions.specs.Checks.{Result, Check, accepted, refused, checked}
+use Rattle.definitions.specs.Checks.{Result, Check, accepted, refused, checked, unchanged}
 use Rattle.definitions.specs.Core.{step}
 use Rattle.definitions.specs.Limits.{StateLimits, CoreLimits}
 use Rattle.definitions.proofs.Laws.Tests.{T-and}
@@ -31,24 +31,26 @@ numbered (c ∷ cs) = not (eqb (c .number) 0) && numbered cs
 
 module _ (before : Core) (done : Result) where
   -- a check that fails answers
-  pub checked-refused : (cs : List Check) → firstFailed cs ≢ 0 → checked cs before done ≡ refused (firstFailed cs) before
+  pub checked-refused : (cs : List Check)
+      → firstFailed cs ≢ 0
+      → checked cs (unchanged before) done ≡ refused (firstFailed cs) before
   unfolding firstFailed checked
   checked-refused [] some = absurd (some refl)
   checked-refused (c ∷ cs) some = go (c .passed) some (checked-refused cs)
     where
-      go : (b : Bool) → cond b (firstFailed cs) (c .number) ≢ 0 → (firstFailed cs ≢ 0 → checked cs before done ≡ refused (firstFailed cs) before)
-          → cond b (checked cs before done) (refused (c .number) before) ≡ refused (cond b (firstFailed cs) (c .number)) before
+      go : (b : Bool) → cond b (firstFailed cs) (c .number) ≢ 0 → (firstFailed cs ≢ 0 → checked cs (unchanged before) done ≡ refused (firstFailed cs) before)
+          → cond b (checked cs (unchanged before) done) (refused (c .number) before) ≡ refused (cond b (firstFailed cs) (c .number)) before
       go true n rest = rest n
       go false n rest = refl
 
   -- where none fails, what was to be done is done
-  pub checked-done : (cs : List Check) → T (numbered cs) → firstFailed cs ≡ 0 → checked cs before done ≡ done
+  pub checked-done : (cs : List Check) → T (numbered cs) → firstFailed cs ≡ 0 → checked cs (unchanged before) done ≡ done
   unfolding firstFailed checked
   checked-done [] k none = refl
   checked-done (c ∷ cs) k none = go (c .passed) (c .number) k none (λ j. checked-done cs j)
     where
-      go : (b : Bool) (n : ℕ) → T (not (eqb n 0) && numbered cs) → cond b (firstFailed cs) n ≡ 0 → (T (numbered cs) → firstFailed cs ≡ 0 → checked cs before done ≡ done)
-          → cond b (checked cs before done) (refused n before) ≡ done
+      go : (b : Bool) (n : ℕ) → T (not (eqb n 0) && numbered cs) → cond b (firstFailed cs) n ≡ 0 → (T (numbered cs) → firstFailed cs ≡ 0 → checked cs (unchanged before) done ≡ done)
+          → cond b (checked cs (unchanged before) done) (refused n before) ≡ done
       go true n t e rest = rest (T-and (not (eqb n 0)) (numbered cs) t .1) e
       go false n t e rest = absurd (T-and (not (eqb 0 0)) (numbered cs) (rw e at t) .0)
 
@@ -68,7 +70,7 @@ pub record Checking (call : Event) : Type 0 where
   pub checks : State → List Check
   pub made : State → State
   pub shut : step unopened call ≡ refused 19 unopened
-  pub runs : (s : State) → step (running s) call ≡ checked (checks s) (running s) (accepted (made s))
+  pub runs : (s : State) → step (running s) call ≡ checked (checks s) (unchanged (running s)) (accepted (made s))
   pub counted : (s : State) → T (numbered (checks s))
 
 pub coreOf-opened : (c : Control) (t : Tables) → c .opened ≡ true → coreOf c t ≡ running (stateOf c t)

@@ -90,8 +90,8 @@ packets-append t [] ys = refl
 packets-append t (x ∷ xs) ys = ap (λ (r : List Packet). packetAt t x ∷ r) (packets-append t xs ys)
 
 -- a queue has as many packets as its count says
-pub queue-length : (t : Tables) (id : ℕ) → length (queueAt t id) ≡ countAt (t .clients) id
+pub queue-length : (t : Tables) (id : ℕ) → length (queueAt t id) ≡ countAt (t .stocks) id
 unfolding queueAt
 queue-length t id =
-    length-map (ring id (headAt (t .clients) id) (countAt (t .clients) id)) (packetAt t)
-    ∙ ring-length id (headAt (t .clients) id) (countAt (t .clients) id)
+    length-map (ring id (headAt (t .stocks) id) (countAt (t .stocks) id)) (packetAt t)
+    ∙ ring-length id (headAt (t .stocks) id) (countAt (t .stocks) id)

@@ -9,7 +9,7 @@ use Rattle.definitions.specs.declared.Answer.{Answer}
 use Rattle.definitions.specs.declared.Answer.the-variants.{Accepted}
 use Rattle.definitions.specs.State.{Core, unopened, running}
 use Rattle.definitions.specs.Core.{step}
-use Rattle.definitions.specs.History.{Place, end, before, calls, Trace, begin, _and_, Holdings, after, answerAt, dealingAt, traceOf, pickOf, holdingsOf, scheduler}
+use Rattle.definitions.specs.History.{Place, end, before, calls, Trace, begin, _and_, Holdings, after, answerAt, dealingAt, traceOf, pickOf, drawsOf, holdingsOf, scheduler}
 use Rattle.definitions.specs.Sameness.{kept, LooksSame, Sameness}
 use Rattle.definitions.specs.Limits.{Limits}
 use Rattle.definitions.specs.Fits.{Fits}
@@ -57,6 +57,7 @@ reached-dealing {call = call} run m = λ i. record {
   event = call;
   answer = (m .answer ∙ ap (λ (x : Core). step x call .answer) (reached-core run)) i;
   pick = ap pickOf (reached-core run) i;
+  draws = ap drawsOf (reached-core run) i;
 }
 
 -- so what was called and what it got is what the definitions give to the same calls

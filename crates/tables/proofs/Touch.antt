@@ -11,6 +11,7 @@ use borrow.Author.Tests.{lt-ltb, ltb-true}
 use Rattle.definitions.specs.declared.Packet.{Packet}
 use Rattle.definitions.specs.Sizes.{ids, places}
 use Rattle.definitions.specs.Client.{isIndifferent, Client, nobody}
+use Rattle.definitions.specs.Stock.{bare}
 use Rattle.definitions.specs.State.{put}
 use Rattle.definitions.specs.Checks.{rates}
 use Rattle.definitions.proofs.Laws.Tests.{eqb-cases}
@@ -20,8 +21,8 @@ use Rattle.marks.specs.Marks.{marked}
 use Rattle.order.specs.Order.{Sound, Ordered}
 use Rattle.order.specs.Owner.{owner, placesOf}
 use Rattle.tables.specs.declared.Control.{Control}
-use Rattle.tables.specs.Tables.{Tables, headAt, countAt, ring}
-use Rattle.tables.specs.Meaning.{kindAt, packetAt, queueAt, clientAt, clientsOf}
+use Rattle.tables.specs.Tables.{Tables, rateColumn, burstColumn, levelColumn, poolColumn, headColumn, countColumn, headAt, countAt, ring}
+use Rattle.tables.specs.Meaning.{kindAt, packetAt, queueAt, clientAt, clientsOf, stockAt, stocksOf}
 use Rattle.tables.specs.Invariant.{Sized, Shape}
 use Rattle.tables.proofs.Fields.{OnlyAt, place-owner}
 
@@ -34,14 +35,15 @@ pub record Touch (c : Control) (t : Tables) (old : Shape c t) (d : Control) (u :
   pub below : id < ids
   pub sizes : Sized u
   -- what belongs to the other ids is as it was
-  pub only : OnlyAt id (t .clients) (u .clients)
+  pub onlyTerms : OnlyAt id (t .terms) (u .terms)
+  pub onlyStocks : OnlyAt id (t .stocks) (u .stocks)
   pub packets : (p : ℕ) → owner p ≢ id → packetAt u p ≡ packetAt t p
   pub indifferents : (j : ℕ) → j ≢ id → marked (d .indifferent) j ≡ marked (c .indifferent) j
   pub privates : (j : ℕ) → j ≢ id → marked (d .private) j ≡ marked (c .private) j
   pub waitings : (j : ℕ) → j ≢ id → marked (d .waiting) j ≡ marked (c .waiting) j
   -- the id's own part is laid out right
-  pub head : headAt (u .clients) id < places
-  pub waits : marked (d .waiting) id ≡ not (eqb (countAt (u .clients) id) 0)
+  pub head : headAt (u .stocks) id < places
+  pub waits : marked (d .waiting) id ≡ not (eqb (countAt (u .stocks) id) 0)
   pub apart : marked (d .private) id ≡ true → marked (d .indifferent) id ≡ false
   pub ratesHeld : d .rates ≡ rates (put (clientsOf c t) id (clientAt d u id))
   -- and so is the order of acceptance
@@ -49,7 +51,7 @@ pub record Touch (c : Control) (t : Tables) (old : Shape c t) (d : Control) (u :
   pub order : List ℕ
   pub ordered : Ordered (u .links) order
   pub placed : placesOf id order
-      ≡ cond (isIndifferent (kindAt d id)) (ring id (headAt (u .clients) id) (countAt (u .clients) id)) []
+      ≡ cond (isIndifferent (kindAt d id)) (ring id (headAt (u .stocks) id) (countAt (u .stocks) id)) []
   pub others : (j : ℕ) → j ≢ id → placesOf j order ≡ placesOf j (old .order)
 
 module _ (c : Control) (t : Tables) (old : Shape c t) (d : Control) (u : Tables) (id : ℕ) (k : Touch c t old d u id) where
@@ -69,18 +71,23 @@ module _ (c : Control) (t : Tables) (old : Shape c t) (d : Control) (u : Tables)
   queue-elsewhere : (j : ℕ) → j < ids → j ≢ id → queueAt u j ≡ queueAt t j
   unfolding queueAt
   queue-elsewhere j l other =
-      rw (k .only 4 j l other, k .only 5 j l other)
-      (packets-elsewhere j other (headAt (t .clients) j) (countAt (t .clients) j))
+      rw (k .onlyStocks headColumn j l other, k .onlyStocks countColumn j l other)
+      (packets-elsewhere j other (headAt (t .stocks) j) (countAt (t .stocks) j))
 
   client-elsewhere : (j : ℕ) → j < ids → j ≢ id → clientAt d u j ≡ clientAt c t j
   unfolding clientAt
   client-elsewhere j l other = λ i. record {
     kind = kind-elsewhere j other i;
-    rate = k .only 0 j l other i;
-    burst = k .only 1 j l other i;
-    level = k .only 2 j l other i;
-    pool = k .only 3 j l other i;
+    rate = k .onlyTerms rateColumn j l other i;
+    burst = k .onlyTerms burstColumn j l other i;
+    level = k .onlyTerms levelColumn j l other i;
+  }
+
+  stock-elsewhere : (j : ℕ) → j < ids → j ≢ id → stockAt u j ≡ stockAt t j
+  unfolding stockAt
+  stock-elsewhere j l other = λ i. record {
     queue = queue-elsewhere j l other i;
+    pool = k .onlyStocks poolColumn j l other i;
   }
 
   clients-elsewhere : (j : ℕ) → j ≢ id → clientsOf d u j ≡ clientsOf c t j
@@ -100,26 +107,42 @@ module _ (c : Control) (t : Tables) (old : Shape c t) (d : Control) (u : Tables)
   touch-clients =
       fun-ext (put-cases (clientsOf c t) id (clientAt d u id) (λ j x. clientsOf d u j ≡ x) client-here clients-elsewhere)
 
-  waits-elsewhere : (j : ℕ) → j ≢ id → marked (d .waiting) j ≡ ltb j ids && not (eqb (countAt (u .clients) j) 0)
+  stocks-elsewhere : (j : ℕ) → j ≢ id → stocksOf u j ≡ stocksOf t j
+  unfolding stocksOf
+  stocks-elsewhere j other = go (ltb j ids) refl
+    where
+      go : (b : Bool) → ltb j ids ≡ b → cond b (stockAt u j) bare ≡ cond b (stockAt t j) bare
+      go true e = stock-elsewhere j (ltb-true j ids e) other
+      go false e = refl
+
+  stock-here : stocksOf u id ≡ stockAt u id
+  unfolding stocksOf
+  stock-here = rw (lt-ltb id ids (k .below))
+
+  -- and so is what they have to send
+  pub touch-stocks : stocksOf u ≡ put (stocksOf t) id (stockAt u id)
+  touch-stocks = fun-ext (put-cases (stocksOf t) id (stockAt u id) (λ j x. stocksOf u j ≡ x) stock-here stocks-elsewhere)
+
+  waits-elsewhere : (j : ℕ) → j ≢ id → marked (d .waiting) j ≡ ltb j ids && not (eqb (countAt (u .stocks) j) 0)
   waits-elsewhere j other = k .waitings j other ∙ old .waits j ∙ go (ltb j ids) refl
     where
       go : (b : Bool) → ltb j ids ≡ b
-          → b && not (eqb (countAt (t .clients) j) 0) ≡ b && not (eqb (countAt (u .clients) j) 0)
-      go true e = ap (λ (n : ℕ). not (eqb n 0)) (sym (k .only 5 j (ltb-true j ids e) other))
+          → b && not (eqb (countAt (t .stocks) j) 0) ≡ b && not (eqb (countAt (u .stocks) j) 0)
+      go true e = ap (λ (n : ℕ). not (eqb n 0)) (sym (k .onlyStocks countColumn j (ltb-true j ids e) other))
       go false e = refl
 
   placed-elsewhere : (j : ℕ) → j ≢ id → j < ids
-      → placesOf j (k .order) ≡ cond (isIndifferent (kindAt d j)) (ring j (headAt (u .clients) j) (countAt (u .clients) j)) []
+      → placesOf j (k .order) ≡ cond (isIndifferent (kindAt d j)) (ring j (headAt (u .stocks) j) (countAt (u .stocks) j)) []
   placed-elsewhere j other l =
-      rw (kind-elsewhere j other, k .only 4 j l other, k .only 5 j l other) (k .others j other ∙ old .placed j l)
+      rw (kind-elsewhere j other, k .onlyStocks headColumn j l other, k .onlyStocks countColumn j l other) (k .others j other ∙ old .placed j l)
 
   pub touch-shape : Shape d u
   touch-shape = record {
     sizes = k .sizes;
-    heads = at-each id (λ j. j < ids → headAt (u .clients) j < places) (λ l. k .head)
-        (λ j other l. rw (k .only 4 j l other) (old .heads j l));
-    waits = at-each id (λ j. marked (d .waiting) j ≡ ltb j ids && not (eqb (countAt (u .clients) j) 0))
-        (k .waits ∙ sym (ap (λ (b : Bool). b && not (eqb (countAt (u .clients) id) 0)) (lt-ltb id ids (k .below))))
+    heads = at-each id (λ j. j < ids → headAt (u .stocks) j < places) (λ l. k .head)
+        (λ j other l. rw (k .onlyStocks headColumn j l other) (old .heads j l));
+    waits = at-each id (λ j. marked (d .waiting) j ≡ ltb j ids && not (eqb (countAt (u .stocks) j) 0))
+        (k .waits ∙ sym (ap (λ (b : Bool). b && not (eqb (countAt (u .stocks) id) 0)) (lt-ltb id ids (k .below))))
         waits-elsewhere;
     apart = at-each id (λ j. marked (d .private) j ≡ true → marked (d .indifferent) j ≡ false) (k .apart)
         (λ j other e. k .indifferents j other ∙ old .apart j (sym (k .privates j other) ∙ e));
@@ -129,19 +152,23 @@ module _ (c : Control) (t : Tables) (old : Shape c t) (d : Control) (u : Tables)
     ordered = k .ordered;
     placed = at-each id
         (λ j. j < ids → placesOf j (k .order)
-        ≡ cond (isIndifferent (kindAt d j)) (ring j (headAt (u .clients) j) (countAt (u .clients) j)) [])
+        ≡ cond (isIndifferent (kindAt d j)) (ring j (headAt (u .stocks) j) (countAt (u .stocks) j)) [])
         (λ l. k .placed)
         placed-elsewhere;
   }
 
 -- the id's own marks and numbers before a call, read off the layout
 module _ (c : Control) (t : Tables) (old : Shape c t) (id : ℕ) (below : id < ids) where
-  pub waits-here : marked (c .waiting) id ≡ not (eqb (countAt (t .clients) id) 0)
-  waits-here = old .waits id ∙ ap (λ (b : Bool). b && not (eqb (countAt (t .clients) id) 0)) (lt-ltb id ids below)
+  pub waits-here : marked (c .waiting) id ≡ not (eqb (countAt (t .stocks) id) 0)
+  waits-here = old .waits id ∙ ap (λ (b : Bool). b && not (eqb (countAt (t .stocks) id) 0)) (lt-ltb id ids below)
 
   pub client-own : clientsOf c t id ≡ clientAt c t id
   unfolding clientsOf
   client-own = rw (lt-ltb id ids below)
+
+  pub stock-own : stocksOf t id ≡ stockAt t id
+  unfolding stocksOf
+  stock-own = rw (lt-ltb id ids below)
 
   -- a client put in place that holds as much of the threshold as the one before
   pub rates-kept : (x : Client) → held x ≡ held (clientAt c t id) → c .rates ≡ rates (put (clientsOf c t) id x)

@@ -13,21 +13,22 @@ use Rattle.marks.specs.Marks.{marked}
 use Rattle.order.specs.Order.{Sound, Ordered}
 use Rattle.order.specs.Owner.{placesOf}
 use Rattle.tables.specs.declared.Control.{Control}
-use Rattle.tables.specs.Tables.{Tables, headAt, countAt, ring}
+use Rattle.tables.specs.Tables.{Tables, termColumns, stockColumns, headAt, countAt, ring}
 use Rattle.tables.specs.Meaning.{kindAt, clientsOf, stateOf}
 
 -- how long the tables are; the links say their own length
 pub record Sized (t : Tables) : Type 0 where
-  pub clients : length (t .clients) ≡ 6 * ids
+  pub terms : length (t .terms) ≡ termColumns * ids
+  pub stocks : length (t .stocks) ≡ stockColumns * ids
   pub handles : length (t .handles) ≡ ids * places
   pub lengths : length (t .lengths) ≡ ids * places
 
 -- how the tables are laid out, apart from what they mean
 pub record Shape (c : Control) (t : Tables) : Type 0 where
   pub sizes : Sized t
-  pub heads : (id : ℕ) → id < ids → headAt (t .clients) id < places
+  pub heads : (id : ℕ) → id < ids → headAt (t .stocks) id < places
   -- "The ids that have packets waiting are one word of 64 marks"
-  pub waits : (id : ℕ) → marked (c .waiting) id ≡ ltb id ids && not (eqb (countAt (t .clients) id) 0)
+  pub waits : (id : ℕ) → marked (c .waiting) id ≡ ltb id ids && not (eqb (countAt (t .stocks) id) 0)
   -- no id is of both types
   pub apart : (id : ℕ) → marked (c .private) id ≡ true → marked (c .indifferent) id ≡ false
   pub ratesHeld : c .rates ≡ rates (clientsOf c t)
@@ -36,7 +37,7 @@ pub record Shape (c : Control) (t : Tables) : Type 0 where
   pub order : List ℕ
   pub ordered : Ordered (t .links) order
   pub placed : (id : ℕ) → id < ids
-      → placesOf id order ≡ cond (isIndifferent (kindAt c id)) (ring id (headAt (t .clients) id) (countAt (t .clients) id)) []
+      → placesOf id order ≡ cond (isIndifferent (kindAt c id)) (ring id (headAt (t .stocks) id) (countAt (t .stocks) id)) []
 
 pub record SoundCore (c : Control) (t : Tables) : Type 0 where
   pub shape : Shape c t

@@ -1,5 +1,6 @@
 -- What the tables of the core mean, when they are valid, what each call promises, and what is claimed of runs of calls.
 pub mod Tables
+pub mod Controls
 pub mod Meaning
 pub mod Invariant
 pub mod Numbers

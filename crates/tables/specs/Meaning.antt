@@ -8,7 +8,8 @@ use lib.ListN.{getD}
 use Rattle.definitions.specs.declared.Packet.{Packet}
 use Rattle.definitions.specs.Sizes.{ids}
 use Rattle.definitions.specs.Client.{Kind, absent, indifferent, private, Client, nobody}
-use Rattle.definitions.specs.State.{State, Core, unopened, running}
+use Rattle.definitions.specs.Stock.{Stock, bare}
+use Rattle.definitions.specs.State.{Side, State, Core, unopened, running}
 use Rattle.marks.specs.Marks.{marked}
 use Rattle.order.specs.Order.{sentinel, nextOf, walked}
 use Rattle.order.specs.Owner.{owner}
@@ -22,45 +23,38 @@ unfoldable pub packetAt : Tables → ℕ → Packet
 packetAt t place = record { handle = getD (t .handles) place 0; length = getD (t .lengths) place 0 }
 
 unfoldable pub queueAt : Tables → ℕ → List Packet
-queueAt t id = map (packetAt t) (ring id (headAt (t .clients) id) (countAt (t .clients) id))
+queueAt t id = map (packetAt t) (ring id (headAt (t .stocks) id) (countAt (t .stocks) id))
 
 unfoldable pub clientAt : Control → Tables → ℕ → Client
 clientAt c t id = record {
   kind = kindAt c id;
-  rate = rateAt (t .clients) id;
-  burst = burstAt (t .clients) id;
-  level = levelAt (t .clients) id;
-  pool = poolAt (t .clients) id;
-  queue = queueAt t id;
+  rate = rateAt (t .terms) id;
+  burst = burstAt (t .terms) id;
+  level = levelAt (t .terms) id;
 }
 
 unfoldable pub clientsOf : Control → Tables → ℕ → Client
 clientsOf c t id = cond (ltb id ids) (clientAt c t id) nobody
 
+unfoldable pub stockAt : Tables → ℕ → Stock
+stockAt t id = record { queue = queueAt t id; pool = poolAt (t .stocks) id }
+
+unfoldable pub stocksOf : Tables → ℕ → Stock
+stocksOf t id = cond (ltb id ids) (stockAt t id) bare
+
 unfoldable pub orderOf : Tables → List ℕ
 orderOf t = map owner (walked sentinel (t .links) (nextOf (t .links) sentinel))
+
+unfoldable pub sideOf : Control → Tables → Side
+sideOf c t = record { generator = c .generator .value; order = orderOf t; stocks = stocksOf t }
 
 unfoldable pub stateOf : Control → Tables → State
 stateOf c t = record {
   threshold = c .threshold;
   discipline = c .discipline;
-  generator = c .generator .value;
   clients = clientsOf c t;
-  order = orderOf t;
+  side = sideOf c t;
 }
 
 unfoldable pub coreOf : Control → Tables → Core
 coreOf c t = cond (c .opened) (running (stateOf c t)) unopened
-
--- control with the ids that wait anew
-abbrev pub withWaiting : Control → ℕ → Control
-withWaiting c word = record {
-  opened = c .opened;
-  threshold = c .threshold;
-  discipline = c .discipline;
-  generator = c .generator;
-  rates = c .rates;
-  indifferent = c .indifferent;
-  private = c .private;
-  waiting = word;
-}

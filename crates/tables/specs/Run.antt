@@ -7,7 +7,7 @@ use mathlib.Core.Path.{_≡_}
 use mathlib.Core.Logic.{_≢_}
 use Rattle.definitions.specs.Event.{Event}
 use Rattle.definitions.specs.State.{Core, unopened}
-use Rattle.definitions.specs.History.{History, start, _then_, calls, Dealing, Trace, begin, _and_, Scheduler, after, answerAt, traceOf, pickOf, holdingsOf, scheduler}
+use Rattle.definitions.specs.History.{History, start, _then_, calls, Dealing, Trace, begin, _and_, Scheduler, after, answerAt, traceOf, pickOf, drawsOf, holdingsOf, scheduler}
 use Rattle.definitions.specs.Sameness.{kept, LooksSame}
 use Rattle.definitions.specs.Limits.{CoreLimits}
 use Rattle.definitions.specs.Fits.{HistoryFits, CoreFits}
@@ -21,7 +21,7 @@ use Rattle.tables.specs.Promise.{Meets}
 
 -- what was dealt where a call on control c and tables t gave r
 abbrev pub dealing : Event → Control → Tables → Answered → Dealing
-dealing call c t r = record { event = call; answer = r .answer; pick = pickOf (coreOf c t) }
+dealing call c t r = record { event = call; answer = r .answer; pick = pickOf (coreOf c t); draws = drawsOf (coreOf c t) }
 
 -- the trace is that of the calls made, and control and tables are those after the last one
 pub data Reached : Trace → Control → Tables → Type 0 where

@@ -1,40 +1,81 @@
 -- The tables of the core (paper 01: "2,048 places, 32 for each of the 64 ids": "an array [0; 2048] of handles and one of
--- lengths"). The clients' numbers are one table: six numbers for each id, one kind of number after the other.
+-- lengths"). What a client has once, its terms, is one table, and what it has to send, its stock, is another; each has several numbers
+-- for each id, one column after the other.
 use Prim.Native.Nat.{ℕ, zero, suc, _+_, _*_, _%_}
 use mathlib.Core.List.{List, [], _∷_}
-use lib.ListN.{getD}
+use lib.ListN.{getD, set}
 use Rattle.definitions.specs.Sizes.{ids, places}
 
 pub record Tables : Type 0 where
-  pub clients : List ℕ
+  pub terms : List ℕ
+  pub stocks : List ℕ
   pub handles : List ℕ
   pub lengths : List ℕ
   pub links : List ℕ
 
-abbrev pub tables : List ℕ → List ℕ → List ℕ → List ℕ → Tables
-tables clients handles lengths links = record { clients = clients; handles = handles; lengths = lengths; links = links }
+abbrev pub tables : List ℕ → List ℕ → List ℕ → List ℕ → List ℕ → Tables
+tables terms stocks handles lengths links = record {
+  terms = terms;
+  stocks = stocks;
+  handles = handles;
+  lengths = lengths;
+  links = links;
+}
 
--- the k-th number of a client: rate, burst, level, pool, and where its queue begins and how many packets it has
+-- the columns of the terms: rate, burst and level
+abbrev pub rateColumn : ℕ
+rateColumn = 0
+
+abbrev pub burstColumn : ℕ
+burstColumn = 1
+
+abbrev pub levelColumn : ℕ
+levelColumn = 2
+
+abbrev pub termColumns : ℕ
+termColumns = 3
+
+-- the columns of the stocks: pool, and where a queue begins and how many packets it has
+abbrev pub poolColumn : ℕ
+poolColumn = 0
+
+abbrev pub headColumn : ℕ
+headColumn = 1
+
+abbrev pub countColumn : ℕ
+countColumn = 2
+
+abbrev pub stockColumns : ℕ
+stockColumns = 3
+
+-- where an id's number stands in a table
+abbrev pub entry : ℕ → ℕ → ℕ
+entry column id = column * ids + id
+
+-- the number that an id has in a column, and the table with another one there
 unfoldable pub field : ℕ → List ℕ → ℕ → ℕ
-field k clients id = getD clients (k * ids + id) 0
+field column table id = getD table (entry column id) 0
+
+abbrev pub written : List ℕ → ℕ → ℕ → ℕ → List ℕ
+written table column id n = set table (entry column id) n
 
 abbrev pub rateAt : List ℕ → ℕ → ℕ
-rateAt = field 0
+rateAt = field rateColumn
 
 abbrev pub burstAt : List ℕ → ℕ → ℕ
-burstAt = field 1
+burstAt = field burstColumn
 
 abbrev pub levelAt : List ℕ → ℕ → ℕ
-levelAt = field 2
+levelAt = field levelColumn
 
 abbrev pub poolAt : List ℕ → ℕ → ℕ
-poolAt = field 3
+poolAt = field poolColumn
 
 abbrev pub headAt : List ℕ → ℕ → ℕ
-headAt = field 4
+headAt = field headColumn
 
 abbrev pub countAt : List ℕ → ℕ → ℕ
-countAt = field 5
+countAt = field countColumn
 
 -- the places of a queue of n packets whose first is at head: a ring among the places of its id
 unfoldable pub ring : ℕ → ℕ → ℕ → List ℕ

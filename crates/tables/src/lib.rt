@@ -28,18 +28,23 @@ pub struct Answered {
     pub answer: Answer,
 }
 
-// The clients' table: six numbers for each id, one kind of number after the other.
-pub const CLIENTS: usize = 6 * IDS as usize;
+// What a client has once, its terms: rate, burst and level of each id, one column after the other.
+pub const TERMS: usize = 3 * IDS as usize;
+
+pub const RATE: u32 = 0;
 
 pub const BURST: u32 = IDS;
 
 pub const LEVEL: u32 = 2 * IDS;
 
-pub const POOL: u32 = 3 * IDS;
+// What a client has to send, its stock: pool, and where its queue begins and how many packets it has.
+pub const STOCKS: usize = 3 * IDS as usize;
 
-pub const HEAD: u32 = 4 * IDS;
+pub const POOL: u32 = 0;
 
-pub const COUNT: u32 = 5 * IDS;
+pub const HEAD: u32 = IDS;
+
+pub const COUNT: u32 = 2 * IDS;
 
 // The places of the waiting packets.
 pub const STORE: usize = (IDS * PLACES) as usize;

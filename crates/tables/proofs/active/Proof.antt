@@ -1,7 +1,7 @@
 -- `tables::active` meets its contract: an id is active where it has either mark. Assumes nothing.
 use borrow.Author.Needs.{needs}
 use mathlib.Core.Path.{sym, _∙_}
-use Rattle.definitions.proofs.Laws.Clients.{active-private}
+use Rattle.definitions.proofs.Laws.Kinds.{active-private}
 use Rattle.tables.specs.Meaning.{kindAt}
 use Rattle.tables.proofs.active.Statement.{statement}
 use Rattle.tables.proofs.active.Tie as tie
