@@ -29,6 +29,6 @@ draw-cong generator f g same =
     ∙ ap (λ (id : ℕ). record { sample = taken; id = id }) (drawnAt-cong f g (taken .target) same)
 
 -- a word without a mark weighs nothing
-pub weightless : (clients : List ℕ) → sumBelow ids (weightAt 0 clients) ≡ 0
+pub weightless : (terms : List ℕ) → sumBelow ids (weightAt 0 terms) ≡ 0
 unfolding weightAt
-weightless clients = sumBelow-zero ids (weightAt 0 clients) (λ id below. rw (marked-none id))
+weightless terms = sumBelow-zero ids (weightAt 0 terms) (λ id below. rw (marked-none id))

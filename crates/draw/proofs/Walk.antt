@@ -33,19 +33,19 @@ first-none word e = ap firstOf e ∙ marked-first-none ids
 
 -- ---- what a mark and its lack say of a weight
 
-pub weight-marked : (word : ℕ) (clients : List ℕ) (id : ℕ) → marked word id ≡ true → weightAt word clients id ≡ getD clients id 0
+pub weight-marked : (word : ℕ) (terms : List ℕ) (id : ℕ) → marked word id ≡ true → weightAt word terms id ≡ getD terms id 0
 unfolding weightAt
-weight-marked word clients id e = rw e
+weight-marked word terms id e = rw e
 
-pub weight-unmarked : (word : ℕ) (clients : List ℕ) (id : ℕ) → marked word id ≡ false → weightAt word clients id ≡ 0
+pub weight-unmarked : (word : ℕ) (terms : List ℕ) (id : ℕ) → marked word id ≡ false → weightAt word terms id ≡ 0
 unfolding weightAt
-weight-unmarked word clients id e = rw e
+weight-unmarked word terms id e = rw e
 
-weight-kept : (word rest : ℕ) (clients : List ℕ) (id : ℕ)
+weight-kept : (word rest : ℕ) (terms : List ℕ) (id : ℕ)
     → marked word id ≡ marked rest id
-    → weightAt word clients id ≡ weightAt rest clients id
+    → weightAt word terms id ≡ weightAt rest terms id
 unfolding weightAt
-weight-kept word rest clients id e = rw e
+weight-kept word rest terms id e = rw e
 
 -- ---- the rest of a word starts past its first mark
 
@@ -67,69 +67,69 @@ rest-first word rest marks l =
 -- ---- the walk over a word, by a table of rates of which those that it meets are at most b
 
 -- `sum` is what the marks of the word weigh that are not left any more, one for each id at most
-pub record Walked (word : ℕ) (clients : List ℕ) (b left sum : ℕ) : Type 0 where
+pub record Walked (word : ℕ) (terms : List ℕ) (b left sum : ℕ) : Type 0 where
   pub fits : left < 2 ^ ids
   pub small : sum ≤ firstOf left * b
-  pub sums : (n : ℕ) → firstOf left ≤ n → sum + sumBelow n (weightAt left clients) ≡ sumBelow n (weightAt word clients)
+  pub sums : (n : ℕ) → firstOf left ≤ n → sum + sumBelow n (weightAt left terms) ≡ sumBelow n (weightAt word terms)
 
 -- a turn of the walk: the first mark left, and its rate
-pub record Turn (word : ℕ) (clients : List ℕ) (b left sum id rate : ℕ) : Type 0 where
+pub record Turn (word : ℕ) (terms : List ℕ) (b left sum id rate : ℕ) : Type 0 where
   pub more : 0 < left
-  pub walked : Walked word clients b left sum
+  pub walked : Walked word terms b left sum
   pub at : id ≡ firstOf left
-  pub of : rate ≡ getD clients id 0
+  pub of : rate ≡ getD terms id 0
   pub bound : rate ≤ b
 
-pub walked-start : (word : ℕ) (clients : List ℕ) (b : ℕ) → word < 2 ^ ids → Walked word clients b word 0
-walked-start word clients b h = record {
+pub walked-start : (word : ℕ) (terms : List ℕ) (b : ℕ) → word < 2 ^ ids → Walked word terms b word 0
+walked-start word terms b h = record {
   fits = h;
   small = zero-le;
-  sums = λ n l. zero-add (sumBelow n (weightAt word clients));
+  sums = λ n l. zero-add (sumBelow n (weightAt word terms));
 }
 
-module _ {word : ℕ} {clients : List ℕ} {b left sum : ℕ} (walked : Walked word clients b left sum) where
+module _ {word : ℕ} {terms : List ℕ} {b left sum : ℕ} (walked : Walked word terms b left sum) where
   -- the marks passed weigh what the word weighs below the first mark left
-  pub walked-reached : sum ≡ sumBelow (firstOf left) (weightAt word clients)
+  pub walked-reached : sum ≡ sumBelow (firstOf left) (weightAt word terms)
   walked-reached =
-      let none : sumBelow (firstOf left) (weightAt left clients) ≡ 0 =
-      sumBelow-zero (firstOf left) (weightAt left clients)
-      (λ j l. weight-unmarked left clients j (firstFrom-before ids (marked left) j l)) in
+      let none : sumBelow (firstOf left) (weightAt left terms) ≡ 0 =
+      sumBelow-zero (firstOf left) (weightAt left terms)
+      (λ j l. weight-unmarked left terms j (firstFrom-before ids (marked left) j l)) in
       omega (arith, walked .sums (firstOf left) (le-refl (firstOf left)))
 
   -- and all of it once no mark is left
-  pub walked-all : left ≡ 0 → sum ≡ sumBelow ids (weightAt word clients)
-  walked-all e = walked-reached ∙ ap (λ (n : ℕ). sumBelow n (weightAt word clients)) (first-none left e)
+  pub walked-all : left ≡ 0 → sum ≡ sumBelow ids (weightAt word terms)
+  walked-all e = walked-reached ∙ ap (λ (n : ℕ). sumBelow n (weightAt word terms)) (first-none left e)
 
   module _ (target : ℕ) (under : sum ≤ target) where
     -- if no id passed exceeds the target, the first mark left is drawn where it does, or where none is left
-    walked-drawn : (firstOf left < ids → target < sumBelow (suc (firstOf left)) (weightAt word clients))
-        → firstOf left ≡ drawnAt (weightAt word clients) target
+    walked-drawn : (firstOf left < ids → target < sumBelow (suc (firstOf left)) (weightAt word terms))
+        → firstOf left ≡ drawnAt (weightAt word terms) target
     unfolding drawnAt
     walked-drawn over =
-        sym (firstFrom-is ids (λ id. ltb target (sumBelow (suc id) (weightAt word clients))) (firstOf left)
+        sym (firstFrom-is ids (λ id. ltb target (sumBelow (suc id) (weightAt word terms))) (firstOf left)
         (firstFrom-le ids (marked left))
         (λ l. lt-ltb _ _ (over l))
         (λ j l. le-ltb _ _ (before j l)))
       where
-        before : (j : ℕ) → j < firstOf left → sumBelow (suc j) (weightAt word clients) ≤ target
-        before j l = omega (arith, walked-reached, sumBelow-more (weightAt word clients) (suc j) (firstOf left) l)
+        before : (j : ℕ) → j < firstOf left → sumBelow (suc j) (weightAt word terms) ≤ target
+        before j l = omega (arith, walked-reached, sumBelow-more (weightAt word terms) (suc j) (firstOf left) l)
 
-    pub walked-none : left ≡ 0 → ids ≡ drawnAt (weightAt word clients) target
+    pub walked-none : left ≡ 0 → ids ≡ drawnAt (weightAt word terms) target
     walked-none e =
         let none : firstOf left ≡ ids = first-none left e in
         sym none ∙ walked-drawn (λ l. absurd (omega arith))
 
-module _ {word : ℕ} {clients : List ℕ} {b left sum id rate : ℕ} (turn : Turn word clients b left sum id rate) where
+module _ {word : ℕ} {terms : List ℕ} {b left sum id rate : ℕ} (turn : Turn word terms b left sum id rate) where
   turn-lt : firstOf left < ids
   turn-lt = marked-first-lt ids left (turn .more) (turn .walked .fits)
 
-  turn-weight : weightAt left clients (firstOf left) ≡ rate
+  turn-weight : weightAt left terms (firstOf left) ≡ rate
   turn-weight =
-      weight-marked left clients (firstOf left) (marked-first ids left (turn .more) (turn .walked .fits))
-      ∙ sym (turn .of ∙ ap (λ (j : ℕ). getD clients j 0) (turn .at))
+      weight-marked left terms (firstOf left) (marked-first ids left (turn .more) (turn .walked .fits))
+      ∙ sym (turn .of ∙ ap (λ (j : ℕ). getD terms j 0) (turn .at))
 
   -- with its rate the sum is the running sum at that id
-  turn-reached : sum + rate ≡ sumBelow (suc (firstOf left)) (weightAt word clients)
+  turn-reached : sum + rate ≡ sumBelow (suc (firstOf left)) (weightAt word terms)
   unfolding sumBelow
   turn-reached =
       let passed = turn .walked .sums in
@@ -149,7 +149,7 @@ module _ {word : ℕ} {clients : List ℕ} {b left sum id rate : ℕ} (turn : Tu
   turn-small = le-trans turn-bound (mul-le-mul-right b turn-lt)
 
   -- the walk goes on with the rest
-  pub turn-rest : (rest : ℕ) → RestOf left rest → rest < left → Walked word clients b rest (sum + rate)
+  pub turn-rest : (rest : ℕ) → RestOf left rest → rest < left → Walked word terms b rest (sum + rate)
   turn-rest rest marks falls =
       let past : firstOf left < firstOf rest = rest-first left rest marks turn-lt in
       record {
@@ -160,12 +160,12 @@ module _ {word : ℕ} {clients : List ℕ} {b left sum id rate : ℕ} (turn : Tu
               arith,
               turn .walked .sums n (omega arith),
               turn-weight,
-              weight-unmarked rest clients (firstOf left) (rest-unmarked left rest marks),
-              sumBelow-other n (firstOf left) (weightAt left clients) (weightAt rest clients) (omega arith)
-                  (λ j q. weight-kept left rest clients j (rest-kept left rest marks j q)),
+              weight-unmarked rest terms (firstOf left) (rest-unmarked left rest marks),
+              sumBelow-other n (firstOf left) (weightAt left terms) (weightAt rest terms) (omega arith)
+                  (λ j q. weight-kept left rest terms j (rest-kept left rest marks j q)),
             );
       }
 
   -- or ends at the id drawn
-  pub turn-drawn : (target : ℕ) → sum ≤ target → target < sum + rate → id ≡ drawnAt (weightAt word clients) target
+  pub turn-drawn : (target : ℕ) → sum ≤ target → target < sum + rate → id ≡ drawnAt (weightAt word terms) target
   turn-drawn target under over = turn .at ∙ walked-drawn (turn .walked) target under (λ l. omega (arith, turn-reached))

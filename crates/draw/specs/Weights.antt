@@ -1,5 +1,5 @@
 -- What an id weighs in a draw among the marked ids, for "the sum of the rates in the draw" (paper 01): its rate, which stands
--- at its place in the clients' table, and nothing if it has no mark, so that it is never drawn.
+-- at its place in the table of terms, and nothing if it has no mark, so that it is never drawn.
 use Prim.Native.Nat.{ℕ}
 use mathlib.Core.Bool.{cond}
 use mathlib.Core.List.{List}
@@ -7,4 +7,4 @@ use lib.ListN.{getD}
 use Rattle.marks.specs.Marks.{marked}
 
 unfoldable pub weightAt : ℕ → List ℕ → ℕ → ℕ
-weightAt word clients id = cond (marked word id) (getD clients id 0) 0
+weightAt word terms id = cond (marked word id) (getD terms id 0) 0

@@ -1,8 +1,9 @@
--- The laws of a slot, over the lists that the tables hold.
-pub mod Filling
-pub mod Sweeping
-pub mod Choosing
-pub mod Sending
-pub mod Slotting
-pub mod Refilling
-pub mod Ticking
+-- How the parts of a slot do what they promise: whose turn it is, what is sent, the turn done, the refill, and the tick of all these.
+pub mod Turns
+pub mod PacketSent
+pub mod DummySent
+pub mod TurnDone
+pub mod RefillMarked
+pub mod RefillEach
+pub mod Refill
+pub mod WholeTick

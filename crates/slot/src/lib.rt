@@ -6,17 +6,19 @@ use definitions::LONGEST;
 use definitions::Outcome;
 use definitions::PLACES;
 use definitions::Packet;
+use draw::Sample;
 use generator::Generator;
 use order::LINKS;
 use tables::Answered;
 use tables::BURST;
-use tables::CLIENTS;
 use tables::COUNT;
 use tables::Control;
 use tables::HEAD;
 use tables::LEVEL;
 use tables::POOL;
+use tables::STOCKS;
 use tables::STORE;
+use tables::TERMS;
 use tables::UNOPENED;
 ghost use mathlib.Core.Path.{_≡_};
 ghost use mathlib.Core.Bool.{cond};
@@ -26,22 +28,24 @@ ghost use Rattle.definitions.specs.Event.{Tick};
 ghost use Rattle.definitions.specs.Sizes.{ids, places, longest};
 ghost use Rattle.definitions.specs.Draw.{sumBelow};
 ghost use Rattle.definitions.specs.Tick.{turn};
+ghost use Rattle.definitions.specs.History.{drawsOf};
 ghost use Rattle.marks.specs.Marks.{marked};
 ghost use Rattle.draw.specs.Weights.{weightAt};
+ghost use Rattle.draw.specs.Samples.{drawsIn};
 ghost use Rattle.order.specs.Order.{sentinel, Sound};
 ghost use Rattle.tables.specs.Tables.{tables, headAt, countAt};
-ghost use Rattle.tables.specs.Meaning.{packetAt, stateOf};
+ghost use Rattle.tables.specs.Meaning.{packetAt, stateOf, coreOf};
 ghost use Rattle.tables.specs.Invariant.{SoundCore, Valid};
 ghost use Rattle.tables.specs.Promise.{Meets};
 ghost use Rattle.slot.specs.Turns.{Chosen, DrawnAmong, HeldByBoth, SoundWith};
-ghost use Rattle.slot.specs.Sends.{Settled, popped, Unlinked, Sender, Spent};
-ghost use Rattle.slot.specs.Slots.{Due, Done};
+ghost use Rattle.slot.specs.Sends.{Settled, popped, Unlinked, SomeSender, Spends};
+ghost use Rattle.slot.specs.Slots.{SomeDue, Does};
 ghost use Rattle.slot.specs.Buckets.{Refillable, Refilled};
 
 // From how many indifferent ids on all ids are gone through.
 const DENSE: u32 = 12;
 
-// How many ids there are, and where the bursts and the levels begin in the clients' table.
+// How many ids there are, and where the bursts and the levels begin in the table of terms.
 const EACH: usize = IDS as usize;
 
 const FIRST_BURST: usize = BURST as usize;
@@ -55,26 +59,26 @@ const PRIVATE_DRAW: u32 = 2;
 
 const NOBODY: u32 = 3;
 
-// Whose slot it is: by which of the paper's rules, whose id, and the generator after the pick.
+// Whose slot it is: by which of the paper's rules, whose id, and what was drawn, with the generator after the pick.
 struct Choice {
     rule: u32,
     id: u32,
-    generator: Generator,
+    sample: Sample,
 }
 
 // The rates of all private clients together. The control has those of all clients, so the type with fewer marks is summed up, and
 // none where nobody is indifferent.
-fn private_total(control: Control, clients: &[u32; CLIENTS]) -> u64
-    requires { ⌜ HeldByBoth control (now clients) ⌝ }
-    ensures { λ r. ⌜ r ≡ sumBelow ids (weightAt (control .private) (now (clients .entry))) ⌝ }
+fn private_total(control: Control, terms: &[u32; TERMS]) -> u64
+    requires { ⌜ HeldByBoth control (now terms) ⌝ }
+    ensures { λ r. ⌜ r ≡ sumBelow ids (weightAt (control .private) (now (terms .entry))) ⌝ }
 {
     if control.indifferent == 0 {
         return tables::wide(control.rates);
     }
     if u64::count_ones(control.private) < u64::count_ones(control.indifferent) {
-        return draw::total(control.private, clients);
+        return draw::total(control.private, terms);
     }
-    tables::wide(control.rates) - draw::total(control.indifferent, clients)
+    tables::wide(control.rates) - draw::total(control.indifferent, terms)
 }
 
 // A draw among the marked ids, by their rates, whose sum is the total.
@@ -82,50 +86,45 @@ fn draw_among(
     rule: u32,
     word: u64,
     total: u64,
-    clients: &[u32; CLIENTS],
+    terms: &[u32; TERMS],
     generator: Generator,
 ) -> Choice
-    requires { ⌜ total ≡ sumBelow ids (weightAt word (now clients)) ⌝ }
-    ensures { λ r. ⌜ DrawnAmong rule word (generator .value) (now (clients .entry)) r ⌝ }
+    requires { ⌜ total ≡ sumBelow ids (weightAt word (now terms)) ⌝ }
+    ensures { λ r. ⌜ DrawnAmong rule word (generator .value) (now (terms .entry)) r ⌝ }
 {
     let sample = draw::sample_below(total, generator);
-    let id = draw::pick(word, clients, sample.target);
-    let after = sample.generator;
-    Choice {
-        rule,
-        id,
-        generator: after,
-    }
+    let id = draw::pick(word, terms, sample.target);
+    Choice { rule, id, sample }
 }
 
 // The first of rules 1 to 3 that applies, and whom it picks: "no mark among the indifferent means that none of them waits".
 // The private are drawn among whether they wait or not.
-fn turn(control: Control, clients: &[u32; CLIENTS], links: &[u32; LINKS]) -> Choice
-    requires { ⌜ SoundWith control (now clients) (now links) ⌝ }
-    ensures { λ r. ⌜ ((h l : List ℕ) → SoundCore control (tables (now (clients .entry)) h l (now (links .entry)))
-        → Chosen r (turn (stateOf control (tables (now (clients .entry)) h l (now (links .entry)))))) ⌝ }
+fn turn(control: Control, terms: &[u32; TERMS], links: &[u32; LINKS]) -> Choice
+    requires { ⌜ SoundWith control (now terms) (now links) ⌝ }
+    ensures { λ r. ⌜ ((k h l : List ℕ) → SoundCore control (tables (now (terms .entry)) k h l (now (links .entry)))
+        → Chosen r (turn (stateOf control (tables (now (terms .entry)) k h l (now (links .entry)))))) ⌝ }
 {
     let generator = control.generator;
     let contenders = marks::both(control.waiting, control.indifferent);
     if marks::any(contenders) {
         if control.discipline != FIRST_COME {
-            let total = draw::total(contenders, clients);
-            return draw_among(INDIFFERENT_FIRST, contenders, total, clients, generator);
+            let total = draw::total(contenders, terms);
+            return draw_among(INDIFFERENT_FIRST, contenders, total, terms, generator);
         }
         return Choice {
             rule: INDIFFERENT_FIRST,
             id: order::front(links) / PLACES,
-            generator,
+            sample: draw::undrawn(generator),
         };
     }
     if marks::any(control.private) {
-        let total = private_total(control, clients);
-        return draw_among(PRIVATE_DRAW, control.private, total, clients, generator);
+        let total = private_total(control, terms);
+        return draw_among(PRIVATE_DRAW, control.private, total, terms, generator);
     }
     Choice {
         rule: NOBODY,
         id: 0,
-        generator,
+        sample: draw::undrawn(generator),
     }
 }
 
@@ -138,7 +137,7 @@ struct Sent {
 // The packet that lies at a place.
 fn packet_at(handles: &[u32; STORE], lengths: &[u32; STORE], place: u32) -> Packet
     requires { ⌜ place < sentinel ⌝ }
-    ensures { λ r. ⌜ ((c k : List ℕ) → r ≡ packetAt (tables c (now (handles .entry)) (now (lengths .entry)) k) place) ⌝ }
+    ensures { λ r. ⌜ ((e k n : List ℕ) → r ≡ packetAt (tables e k (now (handles .entry)) (now (lengths .entry)) n) place) ⌝ }
 {
     let at = place as usize;
     Packet {
@@ -160,16 +159,16 @@ fn padding(control: Control, id: u32, length: u32) -> u32
 }
 
 // Takes the first packet out of an id's queue: "a place is used again once its packet has gone".
-fn pop(clients: &mut [u32; CLIENTS], id: u32)
-    requires { ⌜ (id < ids) × (headAt (now clients) id < places) × (0 < countAt (now clients) id) ⌝ }
-    ensures { λ r. ⌜ now (clients .exit) ≡ popped (now (clients .entry)) id ⌝ }
+fn pop(stocks: &mut [u32; STOCKS], id: u32)
+    requires { ⌜ (id < ids) × (headAt (now stocks) id < places) × (0 < countAt (now stocks) id) ⌝ }
+    ensures { λ r. ⌜ now (stocks .exit) ≡ popped (now (stocks .entry)) id ⌝ }
 {
     let head = (HEAD + id) as usize;
     let count = (COUNT + id) as usize;
-    let first = clients[head];
-    let waiting = clients[count];
-    clients[head] = (first + 1) % PLACES;
-    clients[count] = waiting - 1;
+    let first = stocks[head];
+    let waiting = stocks[count];
+    stocks[head] = (first + 1) % PLACES;
+    stocks[count] = waiting - 1;
 }
 
 // Takes a place out of the order of acceptance, where only indifferent packets stand.
@@ -197,24 +196,22 @@ fn settle(control: Control, left: u32, id: u32) -> Control
 // An id sends its first packet: it goes from the queue, from the order and, with the last one, from the marks.
 fn send_packet(
     control: Control,
-    clients: &mut [u32; CLIENTS],
+    stocks: &mut [u32; STOCKS],
     handles: &[u32; STORE],
     lengths: &[u32; STORE],
     links: &mut [u32; LINKS],
     id: u32,
 ) -> Sent
-    requires { ⌜ Sender control (tables (now clients) (now handles) (now lengths) (now links)) id
-        × (0 < countAt (now clients) id) ⌝ }
-    ensures { λ r. ⌜ Spent control
-        (tables (now (clients .entry)) (now (handles .entry)) (now (lengths .entry)) (now (links .entry))) id r
-        (tables (now (clients .exit)) (now (handles .entry)) (now (lengths .entry)) (now (links .exit))) ⌝ }
+    requires { ⌜ SomeSender control (now stocks) (now handles) (now lengths) (now links) id × (0 < countAt (now stocks) id) ⌝ }
+    ensures { λ r. ⌜ Spends control (now (stocks .entry)) (now (handles .entry)) (now (lengths .entry)) (now (links .entry)) id r
+        (now (stocks .exit)) (now (links .exit)) ⌝ }
 {
-    let place = id * PLACES + clients[(HEAD + id) as usize];
+    let place = id * PLACES + stocks[(HEAD + id) as usize];
     let packet = packet_at(handles, lengths, place);
     let added = padding(control, id, packet.length);
-    pop(clients, id);
+    pop(stocks, id);
     leave_order(control, links, id, place);
-    let after = settle(control, clients[(COUNT + id) as usize], id);
+    let after = settle(control, stocks[(COUNT + id) as usize], id);
     Sent {
         control: after,
         outcome: Outcome::Real {
@@ -228,24 +225,23 @@ fn send_packet(
 // An id sends in its slot: its first packet; without one a dummy, which lowers its pool; without either it idles.
 fn send(
     control: Control,
-    clients: &mut [u32; CLIENTS],
+    stocks: &mut [u32; STOCKS],
     handles: &[u32; STORE],
     lengths: &[u32; STORE],
     links: &mut [u32; LINKS],
     id: u32,
 ) -> Sent
-    requires { ⌜ Sender control (tables (now clients) (now handles) (now lengths) (now links)) id ⌝ }
-    ensures { λ r. ⌜ Spent control
-        (tables (now (clients .entry)) (now (handles .entry)) (now (lengths .entry)) (now (links .entry))) id r
-        (tables (now (clients .exit)) (now (handles .entry)) (now (lengths .entry)) (now (links .exit))) ⌝ }
+    requires { ⌜ SomeSender control (now stocks) (now handles) (now lengths) (now links) id ⌝ }
+    ensures { λ r. ⌜ Spends control (now (stocks .entry)) (now (handles .entry)) (now (lengths .entry)) (now (links .entry)) id r
+        (now (stocks .exit)) (now (links .exit)) ⌝ }
 {
     if marks::has(control.waiting, id) {
-        return send_packet(control, clients, handles, lengths, links, id);
+        return send_packet(control, stocks, handles, lengths, links, id);
     }
     let at = (POOL + id) as usize;
-    let pool = clients[at];
+    let pool = stocks[at];
     if 0 < pool {
-        clients[at] = pool - 1;
+        stocks[at] = pool - 1;
         return Sent {
             control,
             outcome: Outcome::Dummy { id },
@@ -260,31 +256,20 @@ fn send(
 // The one whose turn it is sends, and the generator after the pick is kept. In nobody's slot nothing goes.
 fn spend(
     control: Control,
-    clients: &mut [u32; CLIENTS],
+    stocks: &mut [u32; STOCKS],
     handles: &[u32; STORE],
     lengths: &[u32; STORE],
     links: &mut [u32; LINKS],
     choice: Choice,
 ) -> Sent
-    requires { ⌜ Due control (tables (now clients) (now handles) (now lengths) (now links)) choice ⌝ }
-    ensures { λ r. ⌜ Done control
-        (tables (now (clients .entry)) (now (handles .entry)) (now (lengths .entry)) (now (links .entry))) r
-        (tables (now (clients .exit)) (now (handles .entry)) (now (lengths .entry)) (now (links .exit))) ⌝ }
+    requires { ⌜ SomeDue control (now stocks) (now handles) (now lengths) (now links) choice ⌝ }
+    ensures { λ r. ⌜ Does control (now (stocks .entry)) (now (handles .entry)) (now (lengths .entry)) (now (links .entry)) choice r
+        (now (stocks .exit)) (now (links .exit)) ⌝ }
 {
-    // the borrow checker covers no store to a field that is a struct, so the control is made anew
-    let generator = choice.generator;
-    let after = Control {
-        opened: control.opened,
-        threshold: control.threshold,
-        discipline: control.discipline,
-        generator,
-        rates: control.rates,
-        indifferent: control.indifferent,
-        private: control.private,
-        waiting: control.waiting,
-    };
+    let sample = choice.sample;
+    let after = tables::with_generator(control, sample.generator);
     if choice.rule != NOBODY {
-        return send(after, clients, handles, lengths, links, choice.id);
+        return send(after, stocks, handles, lengths, links, choice.id);
     }
     Sent {
         control: after,
@@ -293,74 +278,90 @@ fn spend(
 }
 
 // Refills the bucket of every marked id where it is kept. Where many ids are marked, it is quicker to go through all.
-fn refill_all(word: u64, clients: &mut [u32; CLIENTS])
-    requires { ⌜ Refillable word (now clients) ⌝ }
-    ensures { λ r. ⌜ Refilled word (now (clients .entry)) (now (clients .exit)) ⌝ }
+fn refill_all(word: u64, terms: &mut [u32; TERMS])
+    requires { ⌜ Refillable word (now terms) ⌝ }
+    ensures { λ r. ⌜ Refilled word (now (terms .entry)) (now (terms .exit)) ⌝ }
 {
     if u64::count_ones(word) < DENSE {
-        refill_marked(word, clients);
+        refill_marked(word, terms);
     } else {
-        refill_each(word, clients);
+        refill_each(word, terms);
     }
 }
 
 // By the marks: ids without one are not visited.
-fn refill_marked(word: u64, clients: &mut [u32; CLIENTS])
-    requires { ⌜ Refillable word (now clients) ⌝ }
-    ensures { λ r. ⌜ Refilled word (now (clients .entry)) (now (clients .exit)) ⌝ }
+fn refill_marked(word: u64, terms: &mut [u32; TERMS])
+    requires { ⌜ Refillable word (now terms) ⌝ }
+    ensures { λ r. ⌜ Refilled word (now (terms .entry)) (now (terms .exit)) ⌝ }
 {
     let mut left = word;
     while left != 0 {
         let id = marks::first(left);
         let at = (LEVEL + id) as usize;
-        clients[at] = bucket::level_after(
-            clients[at],
-            clients[id as usize],
-            clients[(BURST + id) as usize],
+        terms[at] = bucket::level_after(
+            terms[at],
+            terms[id as usize],
+            terms[(BURST + id) as usize],
         );
         left = marks::rest(left);
     }
 }
 
 // By the ids: one without a mark has no bucket, and stays without. The compiler takes several ids at a time.
-fn refill_each(word: u64, clients: &mut [u32; CLIENTS])
-    requires { ⌜ Refillable word (now clients) ⌝ }
-    ensures { λ r. ⌜ Refilled word (now (clients .entry)) (now (clients .exit)) ⌝ }
+fn refill_each(word: u64, terms: &mut [u32; TERMS])
+    requires { ⌜ Refillable word (now terms) ⌝ }
+    ensures { λ r. ⌜ Refilled word (now (terms .entry)) (now (terms .exit)) ⌝ }
 {
     let mut id: usize = 0;
     while id < EACH {
-        clients[FIRST_LEVEL + id] = bucket::level_after(
-            clients[FIRST_LEVEL + id],
-            clients[id],
-            clients[FIRST_BURST + id],
+        terms[FIRST_LEVEL + id] = bucket::level_after(
+            terms[FIRST_LEVEL + id],
+            terms[id],
+            terms[FIRST_BURST + id],
         );
         id += 1;
     }
 }
 
+// What a tick gives: the answer with the control after it, and what was drawn.
+pub struct Ticked {
+    pub answered: Answered,
+    pub sample: Sample,
+}
+
 // One slot (paper 01, "Tick is one slot"): rules 1 to 3 say whose it is, and rule 4 refills after the pick. Refused: 19.
 pub fn tick(
     control: Control,
-    clients: &mut [u32; CLIENTS],
+    terms: &mut [u32; TERMS],
+    stocks: &mut [u32; STOCKS],
     handles: &[u32; STORE],
     lengths: &[u32; STORE],
     links: &mut [u32; LINKS],
-) -> Answered
-    requires { ⌜ Valid control (tables (now clients) (now handles) (now lengths) (now links)) ⌝ }
+) -> Ticked
+    requires { ⌜ Valid control (tables (now terms) (now stocks) (now handles) (now lengths) (now links)) ⌝ }
     ensures { λ r. ⌜ Meets Tick control
-        (tables (now (clients .entry)) (now (handles .entry)) (now (lengths .entry)) (now (links .entry))) r
-        (tables (now (clients .exit)) (now (handles .entry)) (now (lengths .entry)) (now (links .exit))) ⌝ }
+        (tables (now (terms .entry)) (now (stocks .entry)) (now (handles .entry)) (now (lengths .entry)) (now (links .entry)))
+        (r .answered)
+        (tables (now (terms .exit)) (now (stocks .exit)) (now (handles .entry)) (now (lengths .entry)) (now (links .exit))) ⌝ }
+    ensures { λ r. ⌜ drawsIn (r .sample) ≡ drawsOf (coreOf control
+        (tables (now (terms .entry)) (now (stocks .entry)) (now (handles .entry)) (now (lengths .entry)) (now (links .entry)))) ⌝ }
 {
     if !control.opened {
-        return tables::refused(control, UNOPENED);
+        let answered = tables::refused(control, UNOPENED);
+        return Ticked {
+            answered,
+            sample: draw::undrawn(control.generator),
+        };
     }
-    let choice = turn(control, clients, links);
-    let sent = spend(control, clients, handles, lengths, links, choice);
-    refill_all(control.indifferent, clients);
+    let choice = turn(control, terms, links);
+    let sample = choice.sample;
+    let sent = spend(control, stocks, handles, lengths, links, choice);
+    refill_all(control.indifferent, terms);
     let after = sent.control;
     let outcome = sent.outcome;
-    Answered {
+    let answered = Answered {
         control: after,
         answer: Answer::Slot { outcome },
-    }
+    };
+    Ticked { answered, sample }
 }

@@ -6,6 +6,7 @@ use generator::Generator;
 ghost use mathlib.Core.Path.{_≡_};
 ghost use Prim.Native.Nat.{_<_, _^_};
 ghost use Rattle.definitions.specs.Client.{isActive};
+ghost use Rattle.tables.specs.Controls.{withGenerator};
 ghost use Rattle.tables.specs.Meaning.{kindAt};
 
 // What of the core is no table, and goes by value.
@@ -67,6 +68,22 @@ pub fn accepted(control: Control) -> Answered
     Answered {
         control,
         answer: Answer::Accepted,
+    }
+}
+
+// The control with another generator. The borrow checker covers no store to a field that is a struct, so it is made anew, and here alone.
+pub fn with_generator(control: Control, generator: Generator) -> Control
+    ensures { λ r. ⌜ r ≡ withGenerator control generator ⌝ }
+{
+    Control {
+        opened: control.opened,
+        threshold: control.threshold,
+        discipline: control.discipline,
+        generator,
+        rates: control.rates,
+        indifferent: control.indifferent,
+        private: control.private,
+        waiting: control.waiting,
     }
 }
 

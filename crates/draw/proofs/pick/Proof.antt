@@ -11,16 +11,16 @@ use Rattle.draw.proofs.pick.Statement.{statement}
 use Rattle.draw.proofs.pick.Tie as tie
 
 abbrev Inv-loop : tie.InvT-loop
-Inv-loop word clients target limit left₀ reached₀ left reached = Walked word clients (2 ^ 32) left reached × (reached ≤ limit)
+Inv-loop word terms target limit left₀ reached₀ left reached = Walked word terms (2 ^ 32) left reached × (reached ≤ limit)
 
 abbrev μ-loop : tie.MeasureT-loop
-μ-loop word clients target limit left₀ reached₀ left reached = left
+μ-loop word terms target limit left₀ reached₀ left reached = left
 
 -- what is known of the mark and its rate once they are read
 turn : (c : tie.After-wide Inv-loop μ-loop)
     → let loop = c .before .before .before .before .loop in
     let args = c .before .before .before .before .before .args in
-    Turn (args .word) (args .clients .now) (2 ^ 32) (loop .left) (loop .reached)
+    Turn (args .word) (args .terms .now) (2 ^ 32) (loop .left) (loop .reached)
     (c .before .before .first .result) (c .wide .result)
 turn c = record {
   more = omega (arith, c .before .before .before .loop-test .taken);
@@ -32,7 +32,7 @@ turn c = record {
 
 loop-holds : tie.Need-loop-holds Inv-loop μ-loop
 unfolding ids
-loop-holds c = (walked-start (c .args .word) (c .args .clients .now) (2 ^ 32) (search needs), search needs)
+loop-holds c = (walked-start (c .args .word) (c .args .terms .now) (2 ^ 32) (search needs), search needs)
 
 first-requires : tie.Need-first-requires Inv-loop μ-loop
 first-requires c κs = search needs

@@ -93,7 +93,7 @@ returns c =
     ≡ counted (start .before .args .total) (loop .steps) (loop .next .value) =
     ap (sampleFrom (start .before .args .total) throws 1) (sym (start .step .ensures)) ∙ sym (loop .inv .0)
     ∙ taken _ _ _ (loop .inv .2) (c .before .before .is-thrown .ensures) (c .before .if1 .left) in
-    rw given (record { target = c .remainder .ensures; generator = refl; steps = refl })
+    rw given (record { target = c .remainder .ensures; sum = refl; generator = refl; steps = refl })
 
 pub sample-below-spec : {M : Type 1} → statement M
 sample-below-spec =

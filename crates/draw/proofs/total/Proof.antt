@@ -11,16 +11,16 @@ use Rattle.draw.proofs.total.Statement.{statement}
 use Rattle.draw.proofs.total.Tie as tie
 
 abbrev Inv-loop : tie.InvT-loop
-Inv-loop word clients left₀ sum₀ left sum = Walked word clients (2 ^ 32) left sum
+Inv-loop word terms left₀ sum₀ left sum = Walked word terms (2 ^ 32) left sum
 
 abbrev μ-loop : tie.MeasureT-loop
-μ-loop word clients left₀ sum₀ left sum = left
+μ-loop word terms left₀ sum₀ left sum = left
 
 -- what is known of the mark and its rate once they are read
 turn : (c : tie.After-wide Inv-loop μ-loop)
     → let loop = c .before .before .before .before .loop in
     let args = c .before .before .before .before .before .args in
-    Turn (args .word) (args .clients .now) (2 ^ 32) (loop .left) (loop .sum)
+    Turn (args .word) (args .terms .now) (2 ^ 32) (loop .left) (loop .sum)
     (c .before .before .first .result) (c .wide .result)
 turn c = record {
   more = omega (arith, c .before .before .before .loop-test .taken);
@@ -32,7 +32,7 @@ turn c = record {
 
 loop-holds : tie.Need-loop-holds Inv-loop μ-loop
 unfolding ids
-loop-holds c = walked-start (c .args .word) (c .args .clients .now) (2 ^ 32) (search needs)
+loop-holds c = walked-start (c .args .word) (c .args .terms .now) (2 ^ 32) (search needs)
 
 first-requires : tie.Need-first-requires Inv-loop μ-loop
 first-requires c κs = search needs

@@ -24,7 +24,7 @@ element-copy-out-t12 c = omega arith
 
 returns : tie.Need-returns
 unfolding packetAt
-returns c cs ks = refl
+returns c es ks ns = refl
 
 pub packet-at-spec : {M : Type 1} → statement M
 packet-at-spec =

@@ -36,27 +36,27 @@ element-copy-out-waiting : tie.Need-element-copy-out-waiting
 unfolding ids places field
 element-copy-out-waiting c = omega arith
 
-add-clients : tie.Need-add-clients
+add-stocks : tie.Need-add-stocks
 unfolding ids places field
-add-clients c = omega arith
+add-stocks c = omega arith
 
-mul-clients : tie.Need-mul-clients
-mul-clients c = search needs
+mul-stocks : tie.Need-mul-stocks
+mul-stocks c = search needs
 
-element-write-clients : tie.Need-element-write-clients
+element-write-stocks : tie.Need-element-write-stocks
 unfolding ids places field
-element-write-clients c = omega arith
+element-write-stocks c = omega arith
 
-sub-clients : tie.Need-sub-clients
+sub-stocks : tie.Need-sub-stocks
 unfolding ids places field
-sub-clients c = omega arith
+sub-stocks c = omega arith
 
-mul-clients-2 : tie.Need-mul-clients-2
-mul-clients-2 c = search needs
+mul-stocks-2 : tie.Need-mul-stocks-2
+mul-stocks-2 c = search needs
 
-element-write-clients-2 : tie.Need-element-write-clients-2
+element-write-stocks-2 : tie.Need-element-write-stocks-2
 unfolding ids places field
-element-write-clients-2 c = omega arith
+element-write-stocks-2 c = omega arith
 
 returns : tie.Need-returns
 unfolding ids places field popped
@@ -74,10 +74,10 @@ pop-spec =
     element-copy-out-first
     mul-waiting
     element-copy-out-waiting
-    add-clients
-    mul-clients
-    element-write-clients
-    sub-clients
-    mul-clients-2
-    element-write-clients-2
+    add-stocks
+    mul-stocks
+    element-write-stocks
+    sub-stocks
+    mul-stocks-2
+    element-write-stocks-2
     returns)

@@ -17,8 +17,8 @@ wide-requires c κs = search needs
 returns : tie.Need-returns
 returns c =
     let start = c .before .before .before in
-    let clients = start .args .clients .now in
-    let none = ap (λ (word : ℕ). sumBelow ids (weightAt word clients)) (c .before .if1 .taken) ∙ weightless clients in
+    let terms = start .args .terms .now in
+    let none = ap (λ (word : ℕ). sumBelow ids (weightAt word terms)) (c .before .if1 .taken) ∙ weightless terms in
     omega (arith, none, start .pre, c .wide .ensures)
 
 total-requires : tie.Need-total-requires

@@ -5,19 +5,19 @@ use Prim.Native.Nat.{_≤_, _<_, _-_}
 use mathlib.Core.Path.{_≡_}
 use Rattle.definitions.specs.Sizes.{ids}
 use Rattle.tables.specs.Tables.{field}
-use Rattle.slot.proofs.Filling.{rate-first}
-use Rattle.slot.proofs.Sweeping.{Sweep, sweep-start, reached-bucket, sweep-step, sweep-done}
+use Rattle.slot.proofs.RefillMarked.{rate-first}
+use Rattle.slot.proofs.RefillEach.{Sweep, sweep-start, reached-bucket, sweep-step, sweep-done}
 use Rattle.slot.proofs.refill_each.Statement.{statement}
 use Rattle.slot.proofs.refill_each.Tie as tie
 
 abbrev Inv-loop : tie.InvT-loop
-Inv-loop word clients₀ id₀ clients id = (id ≤ 64) × Sweep id clients₀ clients
+Inv-loop word terms₀ id₀ terms id = (id ≤ 64) × Sweep id terms₀ terms
 
 abbrev μ-loop : tie.MeasureT-loop
-μ-loop word clients₀ id₀ clients id = 64 - id
+μ-loop word terms₀ id₀ terms id = 64 - id
 
 loop-holds : tie.Need-loop-holds Inv-loop μ-loop
-loop-holds c = (omega arith, sweep-start (c .args .clients .now))
+loop-holds c = (omega arith, sweep-start (c .args .terms .now))
 
 add-level-after : tie.Need-add-level-after Inv-loop μ-loop
 add-level-after c = search needs
@@ -48,18 +48,18 @@ unfolding field ids
 level-after-requires c κs =
     let at = c .before .before .before .before in
     let below : at .loop .id < 64 = omega arith in
-    let b = reached-bucket (at .before .args .clients .now) (at .loop .clients) (at .loop .id) (at .loop .inv .1) below
+    let b = reached-bucket (at .before .args .terms .now) (at .loop .terms) (at .loop .id) (at .loop .inv .1) below
     (at .before .pre .buckets (at .loop .id) below) in
-    rw (← (rate-first (at .loop .clients) (at .loop .id))) b
+    rw (← (rate-first (at .loop .terms) (at .loop .id))) b
 
-add-clients : tie.Need-add-clients Inv-loop μ-loop
-add-clients c = search needs
+add-terms : tie.Need-add-terms Inv-loop μ-loop
+add-terms c = search needs
 
-mul-clients : tie.Need-mul-clients Inv-loop μ-loop
-mul-clients c = search needs
+mul-terms : tie.Need-mul-terms Inv-loop μ-loop
+mul-terms c = search needs
 
-element-write-clients : tie.Need-element-write-clients Inv-loop μ-loop
-element-write-clients c = search needs
+element-write-terms : tie.Need-element-write-terms Inv-loop μ-loop
+element-write-terms c = search needs
 
 add-id : tie.Need-add-id Inv-loop μ-loop
 add-id c = search needs
@@ -72,8 +72,8 @@ unfolding field ids
 loop-again c =
     let at = c .before .before .before .before .before in
     let below : at .loop .id < 64 = omega arith in
-    let next = sweep-step (at .before .args .clients .now) (at .loop .clients) (at .loop .id) (at .loop .inv .1) below (at .before .pre .size) in
-    (omega arith, rw (c .level-after .ensures, ← (rate-first (at .loop .clients) (at .loop .id))) next)
+    let next = sweep-step (at .before .args .terms .now) (at .loop .terms) (at .loop .id) (at .loop .inv .1) below (at .before .pre .size) in
+    (omega arith, rw (c .level-after .ensures, ← (rate-first (at .loop .terms) (at .loop .id))) next)
 
 returns : tie.Need-returns Inv-loop μ-loop
 unfolding ids
@@ -97,9 +97,9 @@ refill-each-spec =
     mul-level-after-3
     element-copy-out-level-after-3
     level-after-requires
-    add-clients
-    mul-clients
-    element-write-clients
+    add-terms
+    mul-terms
+    element-write-terms
     add-id
     loop-less
     loop-again

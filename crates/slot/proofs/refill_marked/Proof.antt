@@ -8,16 +8,16 @@ use Rattle.definitions.specs.Sizes.{ids}
 use Rattle.tables.specs.Tables.{field}
 use Rattle.bucket.specs.Buckets.{Within}
 use Rattle.slot.specs.Buckets.{bucketAt, levelAfter}
-use Rattle.slot.proofs.Filling.{Filling, filling-start, filling-done, first-below, first-bucket, filling-step}
-use Rattle.slot.proofs.Filling.{rate-first}
+use Rattle.slot.proofs.RefillMarked.{Filling, filling-start, filling-done, first-below, first-bucket, filling-step}
+use Rattle.slot.proofs.RefillMarked.{rate-first}
 use Rattle.slot.proofs.refill_marked.Statement.{statement}
 use Rattle.slot.proofs.refill_marked.Tie as tie
 
 abbrev Inv-loop : tie.InvT-loop
-Inv-loop word clients₀ left₀ clients left = Filling word left clients₀ clients
+Inv-loop word terms₀ left₀ terms left = Filling word left terms₀ terms
 
 abbrev μ-loop : tie.MeasureT-loop
-μ-loop word clients₀ left₀ clients left = left
+μ-loop word terms₀ left₀ terms left = left
 
 more : (c : tie.In-loop Inv-loop μ-loop) → 0 < c .before .loop .left
 more c = omega (arith, c .loop-test .taken)
@@ -32,7 +32,7 @@ below c =
       first-below _ _ _ _ (c .before .before .before .pre) (c .before .before .loop .inv) (more (c .before)),
     )
 
-bucket : (c : tie.After-first Inv-loop μ-loop) → Within (bucketAt (c .before .before .loop .clients) (c .first .result))
+bucket : (c : tie.After-first Inv-loop μ-loop) → Within (bucketAt (c .before .before .loop .terms) (c .first .result))
 bucket c =
     rw (c .first .ensures)
     (first-bucket _ _ _ _ (c .before .before .before .pre) (c .before .before .loop .inv) (more (c .before)))
@@ -82,13 +82,13 @@ unfolding field ids
 level-after-requires c κs =
     let at = c .before .before .before in
     let b = bucket at in
-    rw (← (rate-first (at .before .before .loop .clients) (at .first .result))) b
+    rw (← (rate-first (at .before .before .loop .terms) (at .first .result))) b
 
-mul-clients : tie.Need-mul-clients Inv-loop μ-loop
-mul-clients c = search needs
+mul-terms : tie.Need-mul-terms Inv-loop μ-loop
+mul-terms c = search needs
 
-element-write-clients : tie.Need-element-write-clients Inv-loop μ-loop
-element-write-clients c = omega (arith, below (c .before .before .before .before))
+element-write-terms : tie.Need-element-write-terms Inv-loop μ-loop
+element-write-terms c = omega (arith, below (c .before .before .before .before))
 
 rest-requires : tie.Need-rest-requires Inv-loop μ-loop
 rest-requires c κs = search needs
@@ -129,8 +129,8 @@ refill-marked-spec =
     mul-level-after-3
     element-copy-out-level-after-3
     level-after-requires
-    mul-clients
-    element-write-clients
+    mul-terms
+    element-write-terms
     rest-requires
     loop-less
     loop-again

@@ -4,7 +4,8 @@ use native.Mathlib.Omega.{arith}
 use mathlib.Core.Path.{sym, _∙_}
 use Rattle.definitions.specs.Sizes.{ids}
 use Rattle.tables.specs.Tables.{field}
-use Rattle.slot.proofs.Sending.{marked-some, unmarked-none, dummy-spent, idle-spent}
+use Rattle.slot.proofs.PacketSent.{marked-some, unmarked-none}
+use Rattle.slot.proofs.DummySent.{dummy-spent, idle-spent}
 use Rattle.slot.proofs.send.Statement.{statement}
 use Rattle.slot.proofs.send.Tie as tie
 
@@ -15,14 +16,14 @@ send-packet-requires : tie.Need-send-packet-requires
 send-packet-requires c κs =
     let tested = c .before .before in
     let start = tested .before .before in
-    (start .pre, marked-some _ _ _ (start .pre) (sym (tested .before .has .ensures) ∙ tested .if1 .taken))
+    (start .pre, marked-some _ _ _ (start .pre .1) (sym (tested .before .has .ensures) ∙ tested .if1 .taken))
 
 returns : tie.Need-returns
 returns c = search needs
 
 add-at : tie.Need-add-at
 unfolding ids
-add-at c = omega (arith, c .before .before .pre .below)
+add-at c = omega (arith, c .before .before .pre .1 .below)
 
 cast-at : tie.Need-cast-at
 cast-at c = search needs
@@ -32,33 +33,33 @@ mul-pool c = search needs
 
 element-copy-out-pool : tie.Need-element-copy-out-pool
 unfolding ids
-element-copy-out-pool c = omega (arith, c .before .before .pre .below)
+element-copy-out-pool c = omega (arith, c .before .before .pre .1 .below)
 
-sub-clients : tie.Need-sub-clients
-sub-clients c = search needs
+sub-stocks : tie.Need-sub-stocks
+sub-stocks c = search needs
 
-mul-clients : tie.Need-mul-clients
-mul-clients c = search needs
+mul-stocks : tie.Need-mul-stocks
+mul-stocks c = search needs
 
-element-write-clients : tie.Need-element-write-clients
+element-write-stocks : tie.Need-element-write-stocks
 unfolding ids
-element-write-clients c = omega (arith, c .before .before .before .before .pre .below)
+element-write-stocks c = omega (arith, c .before .before .before .before .pre .1 .below)
 
 returns-2 : tie.Need-returns-2
 unfolding ids field
-returns-2 c =
+returns-2 c terms sender =
     let tested = c .before .before in
     let start = tested .before .before in
-    dummy-spent _ _ _ (start .pre)
-    (unmarked-none _ _ _ (start .pre) (sym (tested .before .has .ensures) ∙ tested .if1 .left)) (c .if2 .taken)
+    dummy-spent _ _ _ sender
+    (unmarked-none _ _ _ sender (sym (tested .before .has .ensures) ∙ tested .if1 .left)) (c .if2 .taken)
 
 returns-3 : tie.Need-returns-3
 unfolding ids field
-returns-3 c =
+returns-3 c terms sender =
     let tested = c .before .before in
     let start = tested .before .before in
-    idle-spent _ _ _ (start .pre)
-    (unmarked-none _ _ _ (start .pre) (sym (tested .before .has .ensures) ∙ tested .if1 .left)) (omega (arith, c .if2 .left))
+    idle-spent _ _ _ sender
+    (unmarked-none _ _ _ sender (sym (tested .before .has .ensures) ∙ tested .if1 .left)) (omega (arith, c .if2 .left))
 
 pub send-spec : {M : Type 1} → statement M
 send-spec =
@@ -71,8 +72,8 @@ send-spec =
     cast-at
     mul-pool
     element-copy-out-pool
-    sub-clients
-    mul-clients
-    element-write-clients
+    sub-stocks
+    mul-stocks
+    element-write-stocks
     returns-2
     returns-3)

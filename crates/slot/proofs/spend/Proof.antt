@@ -1,18 +1,28 @@
--- `slot::spend` meets its contract: it is a law of Slotting, for somebody's slot and for nobody's. Assumes nothing.
-use Rattle.slot.proofs.Slotting.{slot-sender, slot-done, nobody-done}
+-- `slot::spend` meets its contract: it is a law of TurnDone, for somebody's slot and for nobody's, with the generator after the pick.
+-- Assumes nothing.
+use borrow.Author.Needs.{needs}
+use Rattle.slot.proofs.TurnDone.{slot-sender, slot-done, nobody-done}
 use Rattle.slot.proofs.spend.Statement.{statement}
 use Rattle.slot.proofs.spend.Tie as tie
 
+with-generator-requires : tie.Need-with-generator-requires
+with-generator-requires c κs = search needs
+
 send-requires : tie.Need-send-requires
-send-requires c κs = slot-sender _ _ _ (c .before .before .before .before .before .pre) (c .before .before .if1 .taken)
+send-requires c κs =
+    let tested = c .before .before in
+    let pre = tested .before .before .before .before .pre in
+    (pre .0, rw (tested .before .before .with-generator .ensures) (slot-sender _ _ _ (pre .1) (tested .if1 .taken)))
 
 returns : tie.Need-returns
-returns c =
+returns c terms due =
     let tested = c .before .before .before in
-    slot-done _ _ _ (tested .before .before .before .pre) (tested .if1 .taken) (c .send .result) _ (c .send .ensures)
+    let stepped = tested .before .before .with-generator .ensures in
+    slot-done _ _ _ due (tested .if1 .taken) (c .send .result) _
+    (rw stepped at (c .send .ensures terms (rw stepped (slot-sender _ _ _ due (tested .if1 .taken)))))
 
 returns-2 : tie.Need-returns-2
-returns-2 c = nobody-done _ _ _ (c .before .before .before .pre) (c .if1 .left)
+returns-2 c terms due = rw (c .before .before .with-generator .ensures) (nobody-done _ _ _ due (c .if1 .left))
 
 pub spend-spec : {M : Type 1} → statement M
-spend-spec = tie.close (tie.spec send-requires returns returns-2)
+spend-spec = tie.close (tie.spec with-generator-requires send-requires returns returns-2)

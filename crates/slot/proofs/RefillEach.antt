@@ -7,11 +7,11 @@ use mathlib.Core.Bool.{Bool, true, false, cond}
 use mathlib.Core.List.{List}
 use native.Mathlib.Nat.{zero-mul}
 use native.Mathlib.Omega.{arith}
-use lib.ListN.{length, set, length-set}
+use lib.ListN.{length, length-set}
 use Rattle.definitions.specs.Sizes.{ids, shares}
 use Rattle.definitions.proofs.Laws.Tests.{eqb-cases}
 use Rattle.marks.specs.Marks.{marked}
-use Rattle.tables.specs.Tables.{field, rateAt, burstAt, levelAt}
+use Rattle.tables.specs.Tables.{rateColumn, burstColumn, levelColumn, termColumns, entry, written, field, rateAt, burstAt, levelAt}
 use Rattle.tables.proofs.Fields.{field-set-same, field-set-field, field-set-id}
 use Rattle.bucket.specs.Buckets.{Within}
 use Rattle.slot.specs.Buckets.{bucketAt, Refillable, levelAfter, Refilled}
@@ -19,7 +19,7 @@ use Rattle.slot.specs.Buckets.{bucketAt, Refillable, levelAfter, Refille
 -- the ids below n are refilled
 pub record Sweep (n : ℕ) (before now : List ℕ) : Type 0 where
   pub size : length now ≡ length before
-  pub others : (m id : ℕ) → id < ids → m ≢ 2 → field m now id ≡ field m before id
+  pub others : (m id : ℕ) → id < ids → m ≢ levelColumn → field m now id ≡ field m before id
   pub swept : (id : ℕ) → id < ids → id < n → levelAt now id ≡ levelAfter before id
   pub left : (id : ℕ) → id < ids → n ≤ id → levelAt now id ≡ levelAt before id
 
@@ -38,30 +38,30 @@ module _ (before now : List ℕ) (id : ℕ) (s : Sweep id before now) (below : i
 
   pub reached-bucket : Within (bucketAt before id) → Within (bucketAt now id)
   reached-bucket b = record {
-    level = rw (reached-level, s .others 1 id below (λ e. omega arith)) (b .level);
-    rate = rw (s .others 0 id below (λ e. omega arith)) (b .rate);
-    burst = rw (s .others 1 id below (λ e. omega arith)) (b .burst);
+    level = rw (reached-level, s .others burstColumn id below (λ e. omega arith)) (b .level);
+    rate = rw (s .others rateColumn id below (λ e. omega arith)) (b .rate);
+    burst = rw (s .others burstColumn id below (λ e. omega arith)) (b .burst);
   }
 
-  pub sweep-step : length before ≡ 6 * ids
-      → Sweep (id + 1) before (set now (2 * ids + id) (min (levelAt now id + rateAt now id) (burstAt now id * shares)))
+  pub sweep-step : length before ≡ termColumns * ids
+      → Sweep (id + 1) before (written now levelColumn id (min (levelAt now id + rateAt now id) (burstAt now id * shares)))
   unfolding levelAfter
   sweep-step long = record {
     size = length-set now _ _ ∙ s .size;
-    others = λ m j l other. field-set-field now 2 id v below m j l other ∙ s .others m j l other;
-    swept = λ j l h. eqb-cases (λ b. levelAt (set now (2 * ids + id) v) j ≡ levelAfter before j) j id
-        (λ e. rw e (field-set-same now 2 id v room ∙ value))
-        (λ ne. field-set-id now 2 id v below 2 j l ne ∙ s .swept j l (omega arith));
-    left = λ j l h. field-set-id now 2 id v below 2 j l (λ e. omega arith) ∙ s .left j l (omega arith);
+    others = λ m j l other. field-set-field now levelColumn id v below m j l other ∙ s .others m j l other;
+    swept = λ j l h. eqb-cases (λ b. levelAt (written now levelColumn id v) j ≡ levelAfter before j) j id
+        (λ e. rw e (field-set-same now levelColumn id v room ∙ value))
+        (λ ne. field-set-id now levelColumn id v below levelColumn j l ne ∙ s .swept j l (omega arith));
+    left = λ j l h. field-set-id now levelColumn id v below levelColumn j l (λ e. omega arith) ∙ s .left j l (omega arith);
   }
     where
       v : ℕ
       v = min (levelAt now id + rateAt now id) (burstAt now id * shares)
 
       value : v ≡ levelAfter before id
-      value = rw (reached-level, s .others 0 id below (λ e. omega arith), s .others 1 id below (λ e. omega arith))
+      value = rw (reached-level, s .others rateColumn id below (λ e. omega arith), s .others burstColumn id below (λ e. omega arith))
 
-      room : 2 * ids + id < length now
+      room : entry levelColumn id < length now
       room = omega (arith, s .size, long, below)
 
 pub sweep-done : (word : ℕ) (before now : List ℕ) → Refillable word before → Sweep ids before now → Refilled word before now

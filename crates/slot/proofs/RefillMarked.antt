@@ -8,28 +8,28 @@ use mathlib.Core.List.{List}
 use native.Mathlib.Nat.{zero-add}
 use native.Mathlib.Omega.{arith}
 use lib.Dec.{eqb}
-use lib.ListN.{length, getD, set, length-set}
+use lib.ListN.{length, getD, length-set}
 use Rattle.definitions.specs.Sizes.{ids}
 use Rattle.definitions.proofs.Laws.Tests.{eqb-cases, and-both}
 use Rattle.marks.specs.Marks.{marked}
 use Rattle.marks.proofs.Bits.{marked-none}
 use Rattle.marks.proofs.Words.{marked-first-lt, marked-first}
 use Rattle.draw.proofs.Walk.{firstOf, RestOf}
-use Rattle.tables.specs.Tables.{field, rateAt, burstAt, levelAt}
+use Rattle.tables.specs.Tables.{rateColumn, burstColumn, levelColumn, entry, written, field, rateAt, burstAt, levelAt}
 use Rattle.tables.proofs.Fields.{field-set-same, field-set-field, field-set-id}
 use Rattle.bucket.specs.Buckets.{Within}
 use Rattle.slot.specs.Buckets.{bucketAt, Refillable, levelAfter, Refilled}
 
 -- the rates stand first in the table
-pub rate-first : (clients : List ℕ) (id : ℕ) → rateAt clients id ≡ getD clients id 0
+pub rate-first : (terms : List ℕ) (id : ℕ) → rateAt terms id ≡ getD terms id 0
 unfolding field ids
-rate-first clients id = ap (λ (n : ℕ). getD clients n 0) (zero-add id)
+rate-first terms id = ap (λ (n : ℕ). getD terms n 0) (zero-add id)
 
 pub record Filling (word left : ℕ) (before now : List ℕ) : Type 0 where
   pub fits : left < 2 ^ ids
   pub within : (id : ℕ) → marked left id ≡ true → marked word id ≡ true
   pub size : length now ≡ length before
-  pub others : (m id : ℕ) → id < ids → m ≢ 2 → field m now id ≡ field m before id
+  pub others : (m id : ℕ) → id < ids → m ≢ levelColumn → field m now id ≡ field m before id
   pub levels : (id : ℕ) → id < ids
       → levelAt now id ≡ cond (marked word id && not (marked left id)) (levelAfter before id) (levelAt before id)
 
@@ -82,8 +82,8 @@ module _ (word left : ℕ) (before now : List ℕ) (old : Refillable word before
   pub first-bucket : Within (bucketAt now id)
   first-bucket =
       let b = old .buckets id first-below in
-      let rate : rateAt now id ≡ rateAt before id = f .others 0 id first-below (omega arith) in
-      let burst : burstAt now id ≡ burstAt before id = f .others 1 id first-below (omega arith) in
+      let rate : rateAt now id ≡ rateAt before id = f .others rateColumn id first-below (omega arith) in
+      let burst : burstAt now id ≡ burstAt before id = f .others burstColumn id first-below (omega arith) in
       record {
         level = rw (kept, burst) (b .level);
         rate = rw rate (b .rate);
@@ -92,24 +92,23 @@ module _ (word left : ℕ) (before now : List ℕ) (old : Refillable word before
 
   pub first-after : levelAfter now id ≡ levelAfter before id
   unfolding levelAfter
-  first-after = rw (kept, f .others 0 id first-below (omega arith), f .others 1 id first-below (omega arith))
+  first-after = rw (kept, f .others rateColumn id first-below (omega arith), f .others burstColumn id first-below (omega arith))
 
-  room : 2 * ids + id < length now
-  unfolding ids
+  room : entry levelColumn id < length now
   room = omega (arith, first-below, f .size, old .size)
 
   pub filling-step : (rest v : ℕ) → RestOf left rest → rest < left → v ≡ levelAfter now id
-      → Filling word rest before (set now (2 * ids + id) v)
+      → Filling word rest before (written now levelColumn id v)
   filling-step rest v marks falls new = record {
     fits = omega (arith, f .fits);
     within = λ j e. f .within j (and-both (marked left j) (not (eqb j id)) (sym (marks j) ∙ e) .0);
     size = length-set now _ _ ∙ f .size;
-    others = λ m j l other. field-set-field now 2 id v first-below m j l other ∙ f .others m j l other;
+    others = λ m j l other. field-set-field now levelColumn id v first-below m j l other ∙ f .others m j l other;
     levels = λ j l. rw (marks j) (eqb-cases
-        (λ b. levelAt (set now (2 * ids + id) v) j
+        (λ b. levelAt (written now levelColumn id v) j
         ≡ cond (marked word j && not (marked left j && not b)) (levelAfter before j) (levelAt before j)) j id
-        (λ e. rw (e, first-word, first-left) (field-set-same now 2 id v room ∙ new ∙ first-after))
-        (λ other. field-set-id now 2 id v first-below 2 j l other ∙ f .levels j l ∙ still (marked word j) (marked left j)
+        (λ e. rw (e, first-word, first-left) (field-set-same now levelColumn id v room ∙ new ∙ first-after))
+        (λ other. field-set-id now levelColumn id v first-below levelColumn j l other ∙ f .levels j l ∙ still (marked word j) (marked left j)
         (levelAfter before j) (levelAt before j)));
   }
     where
