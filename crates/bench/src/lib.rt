@@ -3,9 +3,10 @@ use definitions::Answer;
 use definitions::Outcome;
 use definitions::Packet;
 use order::LINKS;
-use tables::CLIENTS;
 use tables::Control;
+use tables::STOCKS;
 use tables::STORE;
+use tables::TERMS;
 ghost use Prim.Native.Nat.{_≤_, _<_};
 ghost use Rattle.tables.specs.Tables.{tables};
 ghost use Rattle.tables.specs.Invariant.{Valid};
@@ -47,15 +48,16 @@ fn outcome_code(outcome: Outcome) -> u64 {
 // Joins n clients at equal rates, the first of them indifferent.
 fn join_all(
     control: Control,
-    clients: &mut [u32; CLIENTS],
+    terms: &mut [u32; TERMS],
+    stocks: &mut [u32; STOCKS],
     handles: &[u32; STORE],
     lengths: &[u32; STORE],
     links: &[u32; LINKS],
     n: u32,
     indifferents: u32,
 ) -> Control
-    requires { ⌜ Valid control (tables (now clients) (now handles) (now lengths) (now links)) × (1 ≤ n) ⌝ }
-    ensures { λ r. ⌜ Valid r (tables (now (clients .exit)) (now (handles .entry)) (now (lengths .entry)) (now (links .entry))) ⌝ }
+    requires { ⌜ Valid control (tables (now terms) (now stocks) (now handles) (now lengths) (now links)) × (1 ≤ n) ⌝ }
+    ensures { λ r. ⌜ Valid r (tables (now (terms .exit)) (now (stocks .exit)) (now (handles .entry)) (now (lengths .entry)) (now (links .entry))) ⌝ }
 {
     let rate = 1024 / n;
     let mut at = control;
@@ -64,7 +66,18 @@ fn join_all(
         let indifferent = id < indifferents;
         let kind = choose(indifferent, 1, 2);
         let burst = choose(indifferent, 64, 0);
-        let r = settings::join(at, clients, handles, lengths, links, id, kind, rate, burst);
+        let r = settings::join(
+            at,
+            terms,
+            stocks,
+            handles,
+            lengths,
+            links,
+            id,
+            kind,
+            rate,
+            burst,
+        );
         at = r.control;
         id += 1;
     }
@@ -78,15 +91,16 @@ fn choose(first: bool, a: u32, b: u32) -> u32 {
 // Puts some packets into one queue.
 fn fill_queue(
     control: Control,
-    clients: &mut [u32; CLIENTS],
+    terms: &mut [u32; TERMS],
+    stocks: &mut [u32; STOCKS],
     handles: &mut [u32; STORE],
     lengths: &mut [u32; STORE],
     links: &mut [u32; LINKS],
     id: u32,
     each: u32,
 ) -> Control
-    requires { ⌜ Valid control (tables (now clients) (now handles) (now lengths) (now links)) ⌝ }
-    ensures { λ r. ⌜ Valid r (tables (now (clients .exit)) (now (handles .exit)) (now (lengths .exit)) (now (links .exit))) ⌝ }
+    requires { ⌜ Valid control (tables (now terms) (now stocks) (now handles) (now lengths) (now links)) ⌝ }
+    ensures { λ r. ⌜ Valid r (tables (now (terms .exit)) (now (stocks .exit)) (now (handles .exit)) (now (lengths .exit)) (now (links .exit))) ⌝ }
 {
     let mut at = control;
     let mut k: u32 = 0;
@@ -95,7 +109,7 @@ fn fill_queue(
             handle: id,
             length: 64,
         };
-        let r = traffic::arrive(at, clients, handles, lengths, links, id, packet);
+        let r = traffic::arrive(at, terms, stocks, handles, lengths, links, id, packet);
         at = r.control;
         k += 1;
     }
@@ -105,20 +119,21 @@ fn fill_queue(
 // Puts some packets into each queue, one client after the other.
 fn fill_queues(
     control: Control,
-    clients: &mut [u32; CLIENTS],
+    terms: &mut [u32; TERMS],
+    stocks: &mut [u32; STOCKS],
     handles: &mut [u32; STORE],
     lengths: &mut [u32; STORE],
     links: &mut [u32; LINKS],
     n: u32,
     each: u32,
 ) -> Control
-    requires { ⌜ Valid control (tables (now clients) (now handles) (now lengths) (now links)) ⌝ }
-    ensures { λ r. ⌜ Valid r (tables (now (clients .exit)) (now (handles .exit)) (now (lengths .exit)) (now (links .exit))) ⌝ }
+    requires { ⌜ Valid control (tables (now terms) (now stocks) (now handles) (now lengths) (now links)) ⌝ }
+    ensures { λ r. ⌜ Valid r (tables (now (terms .exit)) (now (stocks .exit)) (now (handles .exit)) (now (lengths .exit)) (now (links .exit))) ⌝ }
 {
     let mut at = control;
     let mut id: u32 = 0;
     while id < n {
-        at = fill_queue(at, clients, handles, lengths, links, id, each);
+        at = fill_queue(at, terms, stocks, handles, lengths, links, id, each);
         id += 1;
     }
     at
@@ -145,7 +160,8 @@ fn packet(handle: u32, length: u32) -> Packet {
 // are for the same id, so that it cannot work out beforehand, or once for both, whether an id is too large.
 fn refused_round(
     control: Control,
-    clients: &mut [u32; CLIENTS],
+    terms: &mut [u32; TERMS],
+    stocks: &mut [u32; STOCKS],
     handles: &mut [u32; STORE],
     lengths: &mut [u32; STORE],
     links: &mut [u32; LINKS],
@@ -155,21 +171,59 @@ fn refused_round(
     k: u32,
     sum: u64,
 ) -> Tally
-    requires { ⌜ Valid control (tables (now clients) (now handles) (now lengths) (now links)) × (beyond ≤ 64) ⌝ }
+    requires { ⌜ Valid control (tables (now terms) (now stocks) (now handles) (now lengths) (now links)) × (beyond ≤ 64) ⌝ }
     ensures { λ r. ⌜ Valid (r .control)
-        (tables (now (clients .exit)) (now (handles .exit)) (now (lengths .exit)) (now (links .exit))) ⌝ }
+        (tables (now (terms .exit)) (now (stocks .exit)) (now (handles .exit)) (now (lengths .exit)) (now (links .exit))) ⌝ }
 {
     let no_sender = beyond + k % 8;
     let no_loader = beyond + k % 4;
     let right = packet(k, 64);
     let short = packet(k, 63);
-    let a = traffic::arrive(control, clients, handles, lengths, links, no_sender, right);
+    let a = traffic::arrive(
+        control,
+        terms,
+        stocks,
+        handles,
+        lengths,
+        links,
+        no_sender,
+        right,
+    );
     let first = a.answer;
-    let b = traffic::load(a.control, clients, handles, lengths, links, no_loader, k);
+    let b = traffic::load(
+        a.control,
+        terms,
+        stocks,
+        handles,
+        lengths,
+        links,
+        no_loader,
+        k,
+    );
     let second = b.answer;
-    let c = settings::join(b.control, clients, handles, lengths, links, id, 2, 1, 0);
+    let c = settings::join(
+        b.control,
+        terms,
+        stocks,
+        handles,
+        lengths,
+        links,
+        id,
+        2,
+        1,
+        0,
+    );
     let third = c.answer;
-    let d = traffic::arrive(c.control, clients, handles, lengths, links, other, short);
+    let d = traffic::arrive(
+        c.control,
+        terms,
+        stocks,
+        handles,
+        lengths,
+        links,
+        other,
+        short,
+    );
     let fourth = d.answer;
     let last = d.control;
     Tally {
@@ -180,7 +234,8 @@ fn refused_round(
 
 fn refused_rounds(
     control: Control,
-    clients: &mut [u32; CLIENTS],
+    terms: &mut [u32; TERMS],
+    stocks: &mut [u32; STOCKS],
     handles: &mut [u32; STORE],
     lengths: &mut [u32; STORE],
     links: &mut [u32; LINKS],
@@ -188,10 +243,10 @@ fn refused_rounds(
     beyond: u32,
     rounds: u32,
 ) -> Tally
-    requires { ⌜ Valid control (tables (now clients) (now handles) (now lengths) (now links)) × (1 ≤ n)
+    requires { ⌜ Valid control (tables (now terms) (now stocks) (now handles) (now lengths) (now links)) × (1 ≤ n)
         × (beyond ≤ 64) ⌝ }
     ensures { λ r. ⌜ Valid (r .control)
-        (tables (now (clients .exit)) (now (handles .exit)) (now (lengths .exit)) (now (links .exit))) ⌝ }
+        (tables (now (terms .exit)) (now (stocks .exit)) (now (handles .exit)) (now (lengths .exit)) (now (links .exit))) ⌝ }
 {
     let mut at = Tally { control, sum: 0 };
     let mut id: u32 = 0;
@@ -200,7 +255,8 @@ fn refused_rounds(
         let other = next(id, n);
         at = refused_round(
             at.control,
-            clients,
+            terms,
+            stocks,
             handles,
             lengths,
             links,
@@ -219,7 +275,8 @@ fn refused_rounds(
 // One arrival and one tick.
 fn traffic_round(
     control: Control,
-    clients: &mut [u32; CLIENTS],
+    terms: &mut [u32; TERMS],
+    stocks: &mut [u32; STOCKS],
     handles: &mut [u32; STORE],
     lengths: &mut [u32; STORE],
     links: &mut [u32; LINKS],
@@ -227,17 +284,18 @@ fn traffic_round(
     k: u32,
     sum: u64,
 ) -> Tally
-    requires { ⌜ Valid control (tables (now clients) (now handles) (now lengths) (now links)) ⌝ }
+    requires { ⌜ Valid control (tables (now terms) (now stocks) (now handles) (now lengths) (now links)) ⌝ }
     ensures { λ r. ⌜ Valid (r .control)
-        (tables (now (clients .exit)) (now (handles .exit)) (now (lengths .exit)) (now (links .exit))) ⌝ }
+        (tables (now (terms .exit)) (now (stocks .exit)) (now (handles .exit)) (now (lengths .exit)) (now (links .exit))) ⌝ }
 {
     let packet = Packet {
         handle: k,
         length: 64 + k % 1024,
     };
-    let a = traffic::arrive(control, clients, handles, lengths, links, id, packet);
+    let a = traffic::arrive(control, terms, stocks, handles, lengths, links, id, packet);
     let first = a.answer;
-    let b = slot::tick(a.control, clients, handles, lengths, links);
+    let ticked = slot::tick(a.control, terms, stocks, handles, lengths, links);
+    let b = ticked.answered;
     let second = b.answer;
     let last = b.control;
     Tally {
@@ -248,22 +306,33 @@ fn traffic_round(
 
 fn traffic_rounds(
     control: Control,
-    clients: &mut [u32; CLIENTS],
+    terms: &mut [u32; TERMS],
+    stocks: &mut [u32; STOCKS],
     handles: &mut [u32; STORE],
     lengths: &mut [u32; STORE],
     links: &mut [u32; LINKS],
     n: u32,
     rounds: u32,
 ) -> Tally
-    requires { ⌜ Valid control (tables (now clients) (now handles) (now lengths) (now links)) × (1 ≤ n) ⌝ }
+    requires { ⌜ Valid control (tables (now terms) (now stocks) (now handles) (now lengths) (now links)) × (1 ≤ n) ⌝ }
     ensures { λ r. ⌜ Valid (r .control)
-        (tables (now (clients .exit)) (now (handles .exit)) (now (lengths .exit)) (now (links .exit))) ⌝ }
+        (tables (now (terms .exit)) (now (stocks .exit)) (now (handles .exit)) (now (lengths .exit)) (now (links .exit))) ⌝ }
 {
     let mut at = Tally { control, sum: 0 };
     let mut id: u32 = 0;
     let mut k: u32 = 0;
     while k < rounds {
-        at = traffic_round(at.control, clients, handles, lengths, links, id, k, at.sum);
+        at = traffic_round(
+            at.control,
+            terms,
+            stocks,
+            handles,
+            lengths,
+            links,
+            id,
+            k,
+            at.sum,
+        );
         id = next(id, n);
         k += 1;
     }
@@ -303,7 +372,8 @@ pub extern "C" fn bench_run(
     let shut = opening::unopened();
     let opened = opening::open(
         shut,
-        &mut clients,
+        &mut terms,
+        &mut stocks,
         &mut handles,
         &mut lengths,
         &mut links,
@@ -314,7 +384,8 @@ pub extern "C" fn bench_run(
     let begun = opened.control;
     let joined = join_all(
         begun,
-        &mut clients,
+        &mut terms,
+        &mut stocks,
         &handles,
         &lengths,
         &links,
@@ -323,7 +394,8 @@ pub extern "C" fn bench_run(
     );
     let filled = fill_queues(
         joined,
-        &mut clients,
+        &mut terms,
+        &mut stocks,
         &mut handles,
         &mut lengths,
         &mut links,
@@ -333,7 +405,8 @@ pub extern "C" fn bench_run(
     if mode == 0 {
         return traffic_rounds(
             filled,
-            &mut clients,
+            &mut terms,
+            &mut stocks,
             &mut handles,
             &mut lengths,
             &mut links,
@@ -343,7 +416,8 @@ pub extern "C" fn bench_run(
     }
     refused_rounds(
         filled,
-        &mut clients,
+        &mut terms,
+        &mut stocks,
         &mut handles,
         &mut lengths,
         &mut links,

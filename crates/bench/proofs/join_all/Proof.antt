@@ -7,11 +7,11 @@ use Rattle.bench.proofs.join_all.Statement.{statement}
 use Rattle.bench.proofs.join_all.Tie as tie
 
 abbrev Inv-loop : tie.InvT-loop
-Inv-loop clients₀ handles lengths links n indifferents rate at₀ id₀ clients at id =
-    Valid at (tables clients handles lengths links) × (id ≤ n)
+Inv-loop terms₀ stocks₀ handles lengths links n indifferents rate at₀ id₀ terms stocks at id =
+    Valid at (tables terms stocks handles lengths links) × (id ≤ n)
 
 abbrev μ-loop : tie.MeasureT-loop
-μ-loop clients₀ handles lengths links n indifferents rate at₀ id₀ clients at id = n - id
+μ-loop terms₀ stocks₀ handles lengths links n indifferents rate at₀ id₀ terms stocks at id = n - id
 
 div-rate : tie.Need-div-rate Inv-loop μ-loop
 div-rate c = search needs
