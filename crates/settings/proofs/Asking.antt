@@ -71,7 +71,7 @@ module _ (c : Control) (t : Tables) (id : ℕ) where
         ∙ sym change-asks
 
     pub change-terms : SoundCore c t → refusal c t (λ s. leaveChecks s id) ≡ 0
-        → firstFailed (termChecks (c .threshold) (c .rates - rateAt (t .clients) id) kind rate burst)
+        → firstFailed (termChecks (c .threshold) (c .rates - rateAt (t .terms) id) kind rate burst)
         ≡ refusal c t (λ s. changeChecks s id kind rate burst)
     unfolding clientAt
     change-terms sound none =

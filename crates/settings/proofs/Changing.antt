@@ -1,7 +1,7 @@
--- A change: new terms where the type stays, and else a new client in the place of the old one, whose places leave the order.
+-- A change: new terms where the kind stays, and else a new client in the place of the old one, of which nothing waits.
 -- Assumes nothing.
 use Prim.Native.Nat.{ℕ, _-_, _≤_, _<_}
-use mathlib.Core.Path.{_≡_, sym, ap, _∙_}
+use mathlib.Core.Path.{_≡_, refl, sym, ap, _∙_}
 use mathlib.Core.Logic.{_≢_}
 use mathlib.Core.Bool.{true, false}
 use mathlib.Core.List.{List}
@@ -10,14 +10,14 @@ use Rattle.definitions.specs.Event.{Change}
 use Rattle.definitions.specs.declared.Answer.the-variants.{Accepted, Refused}
 use Rattle.definitions.specs.Sizes.{ids}
 use Rattle.definitions.specs.Client.{Kind, kindOf, isActive, sameKind, Client, joining, retuned, changed}
-use Rattle.definitions.specs.State.{State, without}
+use Rattle.definitions.specs.State.{State, updated, put, emptied}
 use Rattle.definitions.specs.Checks.{rates, activeChecks, changeChecks}
-use Rattle.definitions.specs.Calls.{updated, orderAfterChange}
+use Rattle.definitions.specs.Calls.{sideAfterChange}
 use Rattle.definitions.proofs.Laws.Checked.{Passed}
-use Rattle.order.specs.Order.{Sound}
 use Rattle.tables.specs.declared.Control.{Control}
 use Rattle.tables.specs.declared.Answered.{Answered}
-use Rattle.tables.specs.Tables.{Tables, rateAt}
+use Rattle.tables.specs.Tables.{Tables, tables, rateAt}
+use Rattle.tables.specs.Controls.{withRates}
 use Rattle.tables.specs.Meaning.{kindAt, clientAt, stateOf}
 use Rattle.tables.specs.Invariant.{SoundCore, Valid}
 use Rattle.tables.specs.Numbers.{refusal}
@@ -25,31 +25,31 @@ use Rattle.tables.specs.Promise.{Meets}
 use Rattle.tables.proofs.Promises.{refused-with, opened, all-passed, sound-before, accepted-with}
 use Rattle.tables.proofs.Checkings.{changes}
 use Rattle.tables.proofs.Touch.{client-own}
-use Rattle.settings.specs.Writes.{Room, Ready, traded, Recast, Withdraws}
-use Rattle.settings.proofs.Rates.{rate-held}
+use Rattle.settings.specs.Writes.{Room, Ready, ratesAfter, Recast, Emptied, Empties}
+use Rattle.settings.proofs.Rates.{limits-own, rate-held}
 use Rattle.settings.proofs.Bounds.{Fitting, terms-fit, fitting-holds, room, ready}
-use Rattle.settings.proofs.Placing.{placedTables, withdrawn, Placement, placed-shape, placed-opened, placed-state}
+use Rattle.settings.proofs.Placing.{placedTables, Placement, placed-shape, placed-opened, placed-state}
 use Rattle.settings.proofs.Retuning.{retunedControl, retunedTables, retuned-shape, retuned-state}
 
--- what a change makes of a state, by whether the type stays
+-- what a change makes of a state, by whether the kind stays
 module _ (s : State) (id kind rate burst : ℕ) where
   abbrev made : State
-  made = updated s id (changed (s .clients id) kind rate burst) (orderAfterChange s id kind)
+  made = updated s (put (s .clients) id (changed (s .clients id) kind rate burst)) (sideAfterChange s id kind)
 
   made-kept : sameKind (s .clients id .kind) (kindOf kind) ≡ true
-      → updated s id (retuned (s .clients id) rate burst) (s .order) ≡ made
-  unfolding changed orderAfterChange
+      → updated s (put (s .clients) id (retuned (s .clients id) rate burst)) (s .side) ≡ made
+  unfolding changed sideAfterChange
   made-kept e = rw e
 
   made-anew : sameKind (s .clients id .kind) (kindOf kind) ≡ false
-      → updated s id (joining kind rate burst) (without id (s .order)) ≡ made
-  unfolding changed orderAfterChange
+      → updated s (put (s .clients) id (joining kind rate burst)) (emptied (s .side) id) ≡ made
+  unfolding changed sideAfterChange
   made-anew e = rw e
 
 module _ (c : Control) (t : Tables) (valid : Valid c t) (id kind rate burst : ℕ) where
   -- the old rate can be taken off
-  pub change-others : c .opened ≡ true → id < ids → rateAt (t .clients) id ≤ c .rates
-  change-others o below = rate-held c t (valid o) id below
+  pub change-others : c .opened ≡ true → id < ids → rateAt (t .terms) id ≤ c .rates
+  change-others o below = rate-held c t (valid o .shape) id below (limits-own c t (valid o) id below)
 
   pub change-refused : (r : Answered) (n : ℕ) → r ≡ record { control = c; answer = Refused n }
       → n ≡ refusal c t (λ s. changeChecks s id kind rate burst) → n ≢ 0 → Meets (Change id kind rate burst) c t r t
@@ -87,13 +87,13 @@ module _ (c : Control) (t : Tables) (valid : Valid c t) (id kind rate burst : �
         terms-fit (stateOf c t .threshold) (rates (stateOf c t .clients) - stateOf c t .clients id .rate) kind rate burst
         (passed .1 .1)
 
-    pub change-room : Room c (t .clients) id rate burst
-    change-room = room c t sound id below rate burst (fits .rateHigh) (fits .burstHigh)
+    pub change-room : Room c (t .terms) id rate burst
+    change-room = room c t sound id below c refl rate burst (fits .rateHigh) (fits .burstHigh)
 
-    pub change-ready : Ready (t .clients) (t .links) id
+    pub change-ready : Ready (t .stocks) (t .links) id
     change-ready = ready c t sound id below
 
-    -- the type stays
+    -- the kind stays
     pub change-retuned : sameKind (kindAt c id) (kindOf kind) ≡ true
         → (r : Answered) → r ≡ record { control = retunedControl c t id rate; answer = Accepted }
         → Meets (Change id kind rate burst) c t r (retunedTables t id rate burst)
@@ -106,26 +106,32 @@ module _ (c : Control) (t : Tables) (valid : Valid c t) (id kind rate burst : �
         (retuned-shape c t sound id rate burst below change-active)
 
     -- it differs
-    module _ (d : Control) (links : List ℕ) (cast : Recast (traded c (rateAt (t .clients) id) rate) d id (kindOf kind))
-        (tight : Sound links) (away : Withdraws c (t .clients) (t .links) id links) where
-      placement : Placement c t id kind rate burst d links
-      placement = record {
-        sound = sound;
-        below = below;
-        holds = fitting-holds kind rate burst fits;
-        cast = cast;
-        tight = tight;
-        away = withdrawn c t sound id below links away;
-      }
+    module _ (b : Control) (stocks links : List ℕ) (empties : Empties c (t .stocks) (t .links) id b stocks links) where
+      bare : Emptied c t id b (tables (t .terms) stocks (t .handles) (t .lengths) links)
+      bare = empties (t .terms) (t .handles) (t .lengths) (sound .shape)
 
-      pub change-placed : sameKind (kindAt c id) (kindOf kind) ≡ false
-          → (r : Answered) → r ≡ record { control = d; answer = Accepted }
-          → Meets (Change id kind rate burst) c t r (placedTables t id rate burst links)
-      unfolding changes
-      change-placed differs r e =
-          accepted-with (Change id kind rate burst) (changes id kind rate burst) c t valid none r d
-          (placedTables t id rate burst links) e
-          (placed-opened c t id kind rate burst d links placement ∙ runs)
-          (placed-state c t id kind rate burst d links placement
-          ∙ made-anew (stateOf c t) id kind rate burst (ap (λ (k : Kind). sameKind k (kindOf kind)) kind-here ∙ differs))
-          (placed-shape c t id kind rate burst d links placement)
+      pub change-room-bare : Room b (t .terms) id rate burst
+      change-room-bare = room c t sound id below b (bare .rest) rate burst (fits .rateHigh) (fits .burstHigh)
+
+      module _ (d : Control) (cast : Recast (withRates b (ratesAfter b (t .terms) id rate)) d id (kindOf kind)) where
+        placement : Placement c t id kind rate burst b stocks links d
+        placement = record {
+          sound = sound;
+          below = below;
+          bare = bare;
+          holds = fitting-holds kind rate burst fits;
+          cast = cast;
+        }
+
+        pub change-placed : sameKind (kindAt c id) (kindOf kind) ≡ false
+            → (r : Answered) → r ≡ record { control = d; answer = Accepted }
+            → Meets (Change id kind rate burst) c t r
+            (placedTables (tables (t .terms) stocks (t .handles) (t .lengths) links) id rate burst)
+        unfolding changes
+        change-placed differs r e =
+            accepted-with (Change id kind rate burst) (changes id kind rate burst) c t valid none r d
+            (placedTables (tables (t .terms) stocks (t .handles) (t .lengths) links) id rate burst) e
+            (placed-opened c t id kind rate burst b stocks links d placement ∙ runs)
+            (placed-state c t id kind rate burst b stocks links d placement
+            ∙ made-anew (stateOf c t) id kind rate burst (ap (λ (k : Kind). sameKind k (kindOf kind)) kind-here ∙ differs))
+            (placed-shape c t id kind rate burst b stocks links d placement)

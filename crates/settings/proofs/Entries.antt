@@ -1,55 +1,52 @@
--- The clients' table after an id's terms, or a whole new client, are written. Each store is seen by itself. Assumes nothing.
-use Prim.Native.Nat.{ℕ, _+_, _*_, _<_}
+-- The terms after an id's are written, and the stocks after an id's is made bare. Each store is seen by itself. Assumes nothing.
+use Prim.Native.Nat.{ℕ, _*_, _<_}
 use mathlib.Core.Path.{_≡_, refl, ap, _∙_}
 use mathlib.Core.Bool.{cond}
 use mathlib.Core.List.{List}
 use native.Mathlib.Omega.{arith}
 use lib.Dec.{eqb}
-use lib.ListN.{length, set, length-set}
-use Rattle.definitions.specs.Sizes.{ids, shares}
-use Rattle.tables.specs.Tables.{field}
+use lib.ListN.{length, length-set}
+use Rattle.definitions.specs.Sizes.{ids}
+use Rattle.tables.specs.Tables.{rateColumn, burstColumn, levelColumn, termColumns}
+use Rattle.tables.specs.Tables.{poolColumn, countColumn, stockColumns, field, written}
 use Rattle.tables.proofs.Fields.{OnlyAt, only-set, field-own}
-use Rattle.settings.specs.Writes.{withTerms, withClient}
+use Rattle.settings.specs.Writes.{withTerms, withBare}
 
--- a store into the numbers of an id, in a table that is long enough
-store-own : (xs : List ℕ) (k m id v : ℕ) → k < 6 → id < ids → length xs ≡ 6 * ids
-    → field m (set xs (k * ids + id) v) id ≡ cond (eqb m k) v (field m xs id)
+-- a store into one of three columns, in a table that is long enough
+store-own : (xs : List ℕ) (k m id v : ℕ) → k < 3 → id < ids → length xs ≡ 3 * ids
+    → field m (written xs k id v) id ≡ cond (eqb m k) v (field m xs id)
 unfolding ids
 store-own xs k m id v h below size = field-own xs k m id v below (omega arith)
 
-module _ (xs : List ℕ) (size : length xs ≡ 6 * ids) (id rate burst level : ℕ) (below : id < ids) where
-  pub terms-length : length (withTerms xs id rate burst level) ≡ 6 * ids
+module _ (xs : List ℕ) (size : length xs ≡ termColumns * ids) (id rate burst level : ℕ) (below : id < ids) where
+  pub terms-length : length (withTerms xs id rate burst level) ≡ termColumns * ids
   terms-length = simp length-set size
 
   -- with m written out, the tests compute
   pub terms-own : (m : ℕ)
       → field m (withTerms xs id rate burst level) id
-      ≡ cond (eqb m 2) level (cond (eqb m 1) burst (cond (eqb m 0) rate (field m xs id)))
+      ≡ cond (eqb m levelColumn) level (cond (eqb m burstColumn) burst (cond (eqb m rateColumn) rate (field m xs id)))
   terms-own m =
-      store-own (set (set xs (0 * ids + id) rate) (1 * ids + id) burst) 2 m id level (omega arith) below (simp length-set size)
-      ∙ ap (cond (eqb m 2) level)
-      (store-own (set xs (0 * ids + id) rate) 1 m id burst (omega arith) below (simp length-set size)
-      ∙ ap (cond (eqb m 1) burst) (store-own xs 0 m id rate (omega arith) below size))
+      store-own (written (written xs rateColumn id rate) burstColumn id burst) levelColumn m id level (omega arith) below
+      (simp length-set size)
+      ∙ ap (cond (eqb m levelColumn) level)
+      (store-own (written xs rateColumn id rate) burstColumn m id burst (omega arith) below (simp length-set size)
+      ∙ ap (cond (eqb m burstColumn) burst) (store-own xs rateColumn m id rate (omega arith) below size))
 
   pub terms-only : OnlyAt id xs (withTerms xs id rate burst level)
   terms-only =
-      only-set xs _ 2 id level below (only-set xs _ 1 id burst below (only-set xs xs 0 id rate below (λ m j l other. refl)))
+      only-set xs _ levelColumn id level below
+      (only-set xs _ burstColumn id burst below (only-set xs xs rateColumn id rate below (λ m j l other. refl)))
 
-module _ (xs : List ℕ) (size : length xs ≡ 6 * ids) (id rate burst : ℕ) (below : id < ids) where
-  pub client-length : length (withClient xs id rate burst) ≡ 6 * ids
-  client-length = simp length-set size
+module _ (xs : List ℕ) (size : length xs ≡ stockColumns * ids) (id : ℕ) (below : id < ids) where
+  pub bare-length : length (withBare xs id) ≡ stockColumns * ids
+  bare-length = simp length-set size
 
-  pub client-own : (m : ℕ)
-      → field m (withClient xs id rate burst) id
-      ≡ cond (eqb m 5) 0 (cond (eqb m 3) 0 (cond (eqb m 2) (burst * shares)
-      (cond (eqb m 1) burst (cond (eqb m 0) rate (field m xs id)))))
-  client-own m =
-      store-own (set (withTerms xs id rate burst (burst * shares)) (3 * ids + id) 0) 5 m id 0 (omega arith) below
-      (simp length-set size)
-      ∙ ap (cond (eqb m 5) 0)
-      (store-own (withTerms xs id rate burst (burst * shares)) 3 m id 0 (omega arith) below (simp length-set size)
-      ∙ ap (cond (eqb m 3) 0) (terms-own xs size id rate burst (burst * shares) below m))
+  pub bare-own : (m : ℕ)
+      → field m (withBare xs id) id ≡ cond (eqb m countColumn) 0 (cond (eqb m poolColumn) 0 (field m xs id))
+  bare-own m =
+      store-own (written xs poolColumn id 0) countColumn m id 0 (omega arith) below (simp length-set size)
+      ∙ ap (cond (eqb m countColumn) 0) (store-own xs poolColumn m id 0 (omega arith) below size)
 
-  pub client-only : OnlyAt id xs (withClient xs id rate burst)
-  client-only =
-      only-set xs _ 5 id 0 below (only-set xs _ 3 id 0 below (terms-only xs size id rate burst (burst * shares) below))
+  pub bare-only : OnlyAt id xs (withBare xs id)
+  bare-only = only-set xs _ countColumn id 0 below (only-set xs xs poolColumn id 0 below (λ m j l other. refl))

@@ -9,25 +9,27 @@ use Rattle.definitions.specs.Event.{Join}
 use Rattle.definitions.specs.declared.Answer.the-variants.{Accepted, Refused}
 use Rattle.definitions.specs.Sizes.{ids}
 use Rattle.definitions.specs.Client.{Kind, absent, indifferent, private, kindOf, isActive, isIndifferent, joining}
-use Rattle.definitions.specs.State.{without}
+use Rattle.definitions.specs.Stock.{bare}
+use Rattle.definitions.specs.State.{updated, put, stocked, without, emptied}
 use Rattle.definitions.specs.Checks.{rates, joinChecks}
-use Rattle.definitions.specs.Calls.{updated}
 use Rattle.definitions.proofs.Laws.Tests.{true-false}
 use Rattle.definitions.proofs.Laws.Checked.{Passed}
 use Rattle.order.specs.Owner.{placesOf}
 use Rattle.tables.specs.declared.Control.{Control}
 use Rattle.tables.specs.declared.Answered.{Answered}
-use Rattle.tables.specs.Tables.{Tables, rateAt}
-use Rattle.tables.specs.Meaning.{kindAt, clientAt, clientsOf, stateOf}
+use Rattle.tables.specs.Tables.{Tables}
+use Rattle.tables.specs.Controls.{withRates}
+use Rattle.tables.specs.Meaning.{kindAt, clientAt, clientsOf, sideOf, stateOf}
 use Rattle.tables.specs.Invariant.{SoundCore, Valid}
 use Rattle.tables.specs.Numbers.{refusal}
 use Rattle.tables.specs.Promise.{Meets}
 use Rattle.tables.proofs.Promises.{refused-with, opened, all-passed, sound-before, accepted-with}
 use Rattle.tables.proofs.Checkings.{joins}
-use Rattle.settings.specs.Writes.{Room, traded, Recast, Withdrawn}
+use Rattle.settings.specs.Writes.{Room, ratesAfter, withBare, Recast, Quiet, Withdrawn}
 use Rattle.settings.proofs.Rings.{order-without, withdrawn-none}
 use Rattle.settings.proofs.Bounds.{Fitting, terms-fit, fitting-holds, room}
-use Rattle.settings.proofs.Placing.{placedTables, order-means, Placement, placed-shape, placed-opened, placed-state}
+use Rattle.settings.proofs.Emptying.{order-means, emptiedTables, emptied-by}
+use Rattle.settings.proofs.Placing.{placedTables, Placement, placed-shape, placed-opened, placed-state}
 
 inactive : (k : Kind) → isActive k ≡ false → isIndifferent k ≡ false
 inactive absent e = refl
@@ -49,52 +51,57 @@ module _ (c : Control) (t : Tables) (valid : Valid c t) (id kind rate burst : �
     unfolding joins
     sound = sound-before (Join id kind rate burst) (joins id kind rate burst) c t valid none
 
-    below : id < ids
+    pub join-below : id < ids
     unfolding joinChecks
-    below = ltb-true id ids (passed .0)
+    join-below = ltb-true id ids (passed .0)
 
     fits : Fitting kind rate burst
     unfolding joinChecks
     fits = terms-fit (stateOf c t .threshold) (rates (stateOf c t .clients)) kind rate burst (passed .1 .1)
 
-    pub join-room : Room c (t .clients) id rate burst
-    join-room = room c t sound id below rate burst (fits .rateHigh) (fits .burstHigh)
-
-    quiet : isIndifferent (kindAt c id) ≡ false
+    dull : isIndifferent (kindAt c id) ≡ false
     unfolding joinChecks stateOf clientsOf clientAt
-    quiet = inactive (kindAt c id) (not-true _ (rw (lt-ltb id ids below) at (passed .1 .0)))
+    dull = inactive (kindAt c id) (not-true _ (rw (lt-ltb id ids join-below) at (passed .1 .0)))
 
     unplaced : placesOf id (sound .shape .order) ≡ []
-    unplaced = rw quiet at (sound .shape .placed id below)
+    unplaced = rw dull at (sound .shape .placed id join-below)
 
     away : Withdrawn (t .links) id (sound .shape .order)
     away = withdrawn-none (t .links) id (sound .shape .order) (sound .shape .ordered) unplaced
 
-    order-kept : without id (stateOf c t .order) ≡ stateOf c t .order
-    unfolding stateOf
-    order-kept =
+    -- there is nothing of the id in the order to empty
+    side-made : emptied (stateOf c t .side) id ≡ stocked (stateOf c t .side) id bare
+    unfolding stateOf sideOf emptied stocked
+    side-made =
         let o = order-means t (sound .shape .order) (sound .shape .ordered) in
-        ap (without id) o ∙ order-without id (sound .shape .order) unplaced ∙ sym o
+        λ i. record {
+          generator = sideOf c t .generator;
+          order = (ap (without id) o ∙ order-without id (sound .shape .order) unplaced ∙ sym o) i;
+          stocks = put (sideOf c t .stocks) id bare;
+        }
 
-    module _ (d : Control) (cast : Recast (traded c (rateAt (t .clients) id) rate) d id (kindOf kind)) where
-      placement : Placement c t id kind rate burst d (t .links)
-      placement = record {
-        sound = sound;
-        below = below;
-        holds = fitting-holds kind rate burst fits;
-        cast = cast;
-        tight = sound .shape .sound;
-        away = away;
-      }
+    module _ (b : Control) (quiet : Quiet c b id) where
+      pub join-room : Room b (t .terms) id rate burst
+      join-room = room c t sound id join-below b (quiet .rest) rate burst (fits .rateHigh) (fits .burstHigh)
 
-      pub join-accepted : (r : Answered) → r ≡ record { control = d; answer = Accepted }
-          → Meets (Join id kind rate burst) c t r (placedTables t id rate burst (t .links))
-      unfolding joins
-      join-accepted r e =
-          accepted-with (Join id kind rate burst) (joins id kind rate burst) c t valid none r d
-          (placedTables t id rate burst (t .links)) e
-          (placed-opened c t id kind rate burst d (t .links) placement
-          ∙ opened (Join id kind rate burst) (joins id kind rate burst) c t valid none)
-          (placed-state c t id kind rate burst d (t .links) placement
-          ∙ ap (updated (stateOf c t) id (joining kind rate burst)) order-kept)
-          (placed-shape c t id kind rate burst d (t .links) placement)
+      module _ (d : Control) (cast : Recast (withRates b (ratesAfter b (t .terms) id rate)) d id (kindOf kind)) where
+        placement : Placement c t id kind rate burst b (withBare (t .stocks) id) (t .links) d
+        placement = record {
+          sound = sound;
+          below = join-below;
+          bare = emptied-by c t (sound .shape) id join-below b (t .links) quiet (sound .shape .sound) away;
+          holds = fitting-holds kind rate burst fits;
+          cast = cast;
+        }
+
+        pub join-accepted : (r : Answered) → r ≡ record { control = d; answer = Accepted }
+            → Meets (Join id kind rate burst) c t r (placedTables (emptiedTables t id (t .links)) id rate burst)
+        unfolding joins
+        join-accepted r e =
+            accepted-with (Join id kind rate burst) (joins id kind rate burst) c t valid none r d
+            (placedTables (emptiedTables t id (t .links)) id rate burst) e
+            (placed-opened c t id kind rate burst b _ (t .links) d placement
+            ∙ opened (Join id kind rate burst) (joins id kind rate burst) c t valid none)
+            (placed-state c t id kind rate burst b _ (t .links) d placement
+            ∙ ap (updated (stateOf c t) (put (stateOf c t .clients) id (joining kind rate burst))) side-made)
+            (placed-shape c t id kind rate burst b _ (t .links) d placement)

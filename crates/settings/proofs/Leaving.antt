@@ -1,4 +1,4 @@
--- A leave: the id's places leave the order, and nobody is put in its place. Nobody is what a client of no type, rate 0 and
+-- A leave: what the id had to send is emptied, and nobody is put in its place. Nobody is what a client of no kind, rate 0 and
 -- burst 0 would be. Assumes nothing.
 use Prim.Native.Nat.{ℕ, _<_}
 use mathlib.Core.Path.{_≡_, refl, ap, _∙_}
@@ -10,24 +10,23 @@ use Rattle.definitions.specs.Event.{Leave}
 use Rattle.definitions.specs.declared.Answer.the-variants.{Accepted, Refused}
 use Rattle.definitions.specs.Sizes.{ids, shares, indifferentKind, privateKind}
 use Rattle.definitions.specs.Client.{Client, nobody, kindOf, joining}
-use Rattle.definitions.specs.State.{without}
+use Rattle.definitions.specs.State.{updated, put, emptied}
 use Rattle.definitions.specs.Checks.{activeChecks, leaveChecks}
-use Rattle.definitions.specs.Calls.{updated}
 use Rattle.definitions.proofs.Laws.Checked.{Passed}
 use Rattle.definitions.proofs.Laws.Rates.{held}
-use Rattle.order.specs.Order.{Sound}
 use Rattle.tables.specs.declared.Control.{Control}
 use Rattle.tables.specs.declared.Answered.{Answered}
-use Rattle.tables.specs.Tables.{Tables, rateAt}
+use Rattle.tables.specs.Tables.{Tables, tables}
+use Rattle.tables.specs.Controls.{withRates}
 use Rattle.tables.specs.Meaning.{stateOf}
 use Rattle.tables.specs.Invariant.{SoundCore, Valid}
 use Rattle.tables.specs.Numbers.{refusal}
 use Rattle.tables.specs.Promise.{Meets}
 use Rattle.tables.proofs.Promises.{refused-with, opened, all-passed, sound-before, accepted-with}
 use Rattle.tables.proofs.Checkings.{leaves}
-use Rattle.settings.specs.Writes.{Room, Ready, traded, Recast, Withdraws}
+use Rattle.settings.specs.Writes.{Room, Ready, ratesAfter, Recast, Emptied, Empties}
 use Rattle.settings.proofs.Bounds.{room, ready}
-use Rattle.settings.proofs.Placing.{placedTables, withdrawn, Placement, placed-shape, placed-opened, placed-state}
+use Rattle.settings.proofs.Placing.{placedTables, Placement, placed-shape, placed-opened, placed-state}
 
 nobody-joins : joining 0 0 0 ≡ nobody
 unfolding joining kindOf indifferentKind privateKind shares
@@ -56,30 +55,34 @@ module _ (c : Control) (t : Tables) (valid : Valid c t) (id : ℕ) where
     unfolding leaveChecks activeChecks
     below = ltb-true id ids (passed .0)
 
-    pub leave-ready : Ready (t .clients) (t .links) id
+    pub leave-ready : Ready (t .stocks) (t .links) id
     leave-ready = ready c t sound id below
 
-    pub leave-room : Room c (t .clients) id 0 0
-    leave-room = room c t sound id below 0 0 (omega arith) (omega arith)
+    module _ (b : Control) (stocks links : List ℕ) (empties : Empties c (t .stocks) (t .links) id b stocks links) where
+      bare : Emptied c t id b (tables (t .terms) stocks (t .handles) (t .lengths) links)
+      bare = empties (t .terms) (t .handles) (t .lengths) (sound .shape)
 
-    module _ (d : Control) (links : List ℕ) (cast : Recast (traded c (rateAt (t .clients) id) 0) d id (kindOf 0))
-        (tight : Sound links) (away : Withdraws c (t .clients) (t .links) id links) where
-      placement : Placement c t id 0 0 0 d links
-      placement = record {
-        sound = sound;
-        below = below;
-        holds = ap held nobody-joins ∙ none-held;
-        cast = cast;
-        tight = tight;
-        away = withdrawn c t sound id below links away;
-      }
+      pub leave-room : Room b (t .terms) id 0 0
+      leave-room = room c t sound id below b (bare .rest) 0 0 (omega arith) (omega arith)
 
-      pub leave-accepted : (r : Answered) → r ≡ record { control = d; answer = Accepted }
-          → Meets (Leave id) c t r (placedTables t id 0 0 links)
-      unfolding leaves
-      leave-accepted r e =
-          accepted-with (Leave id) (leaves id) c t valid none r d (placedTables t id 0 0 links) e
-          (placed-opened c t id 0 0 0 d links placement ∙ opened (Leave id) (leaves id) c t valid none)
-          (placed-state c t id 0 0 0 d links placement
-          ∙ ap (λ (x : Client). updated (stateOf c t) id x (without id (stateOf c t .order))) nobody-joins)
-          (placed-shape c t id 0 0 0 d links placement)
+      module _ (d : Control) (cast : Recast (withRates b (ratesAfter b (t .terms) id 0)) d id (kindOf 0)) where
+        placement : Placement c t id 0 0 0 b stocks links d
+        placement = record {
+          sound = sound;
+          below = below;
+          bare = bare;
+          holds = ap held nobody-joins ∙ none-held;
+          cast = cast;
+        }
+
+        pub leave-accepted : (r : Answered) → r ≡ record { control = d; answer = Accepted }
+            → Meets (Leave id) c t r (placedTables (tables (t .terms) stocks (t .handles) (t .lengths) links) id 0 0)
+        unfolding leaves
+        leave-accepted r e =
+            accepted-with (Leave id) (leaves id) c t valid none r d
+            (placedTables (tables (t .terms) stocks (t .handles) (t .lengths) links) id 0 0) e
+            (placed-opened c t id 0 0 0 b stocks links d placement ∙ opened (Leave id) (leaves id) c t valid none)
+            (placed-state c t id 0 0 0 b stocks links d placement
+            ∙ ap (λ (x : Client). updated (stateOf c t) (put (stateOf c t .clients) id x) (emptied (stateOf c t .side) id))
+            nobody-joins)
+            (placed-shape c t id 0 0 0 b stocks links d placement)

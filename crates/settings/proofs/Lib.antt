@@ -3,6 +3,7 @@ pub mod Remarks
 pub mod Entries
 pub mod Rates
 pub mod Rings
+pub mod Emptying
 pub mod Placing
 pub mod Bounds
 pub mod Leaving

@@ -1,37 +1,34 @@
--- A new client at an id, in the place of any that it had: the state has it, and the order no place of the id. Only the id's own
--- numbers and marks and the links are written. Assumes nothing.
-use Prim.Native.Nat.{ℕ, _<_}
-use mathlib.Core.Path.{_≡_, refl, sym, ap, _∙_}
+-- The terms of a new client at an id that has nothing to send: the state has it in the place of the old one. Only the id's own
+-- terms and marks are written. Assumes nothing.
+use Prim.Native.Nat.{ℕ, _*_, _<_}
+use mathlib.Core.Path.{_≡_, refl, sym, ap, ap₂, subst, _∙_}
 use mathlib.Core.Bool.{true, false, cond}
-use mathlib.Core.List.{List, [], map}
+use mathlib.Core.List.{List, []}
 use lib.Dec.{eqb}
-use Rattle.definitions.specs.Sizes.{ids}
-use Rattle.definitions.specs.Client.{Kind, absent, indifferent, private, kindOf, isIndifferent, isPrivate, joining}
-use Rattle.definitions.specs.State.{put, without}
-use Rattle.definitions.specs.Calls.{updated}
+use Rattle.definitions.specs.Sizes.{ids, shares}
+use Rattle.definitions.specs.Client.{Kind, absent, indifferent, private, kindOf, isIndifferent, isPrivate, Client, joining}
+use Rattle.definitions.specs.State.{updated, put, emptied}
+use Rattle.definitions.specs.Limits.{ClientLimits}
 use Rattle.definitions.proofs.Laws.Tests.{true-false, cond-same}
 use Rattle.definitions.proofs.Laws.Rates.{held}
-use Rattle.order.specs.Order.{Sound, Ordered}
-use Rattle.order.specs.Owner.{owner}
-use Rattle.order.proofs.Walk.{ordered-walked}
+use Rattle.marks.specs.Marks.{marked}
+use Rattle.order.specs.Owner.{placesOf}
 use Rattle.tables.specs.declared.Control.{Control}
-use Rattle.tables.specs.Tables.{Tables, tables, field, rateAt, ring}
-use Rattle.tables.specs.Meaning.{kindAt, packetAt, queueAt, clientAt, clientsOf, orderOf, stateOf}
+use Rattle.tables.specs.Tables.{Tables, tables, rateColumn, burstColumn, levelColumn, field, countAt, ring}
+use Rattle.tables.specs.Controls.{withRates}
+use Rattle.tables.specs.Meaning.{kindAt, packetAt, queueAt, clientAt, clientsOf, stockAt, stocksOf, orderOf, sideOf, stateOf}
 use Rattle.tables.specs.Invariant.{Shape, SoundCore}
-use Rattle.tables.proofs.Touch.{Touch, touch-clients, touch-shape}
-use Rattle.settings.specs.Writes.{withClient, traded, Recast, Withdrawn, Withdraws}
+use Rattle.tables.proofs.Touch.{Touch, touch-clients, touch-shape, waits-here}
+use Rattle.settings.specs.Writes.{withTerms, ratesAfter, Recast, Emptied}
 use Rattle.settings.proofs.Remarks.{recast-kind}
-use Rattle.settings.proofs.Entries.{client-length, client-own, client-only}
-use Rattle.settings.proofs.Rates.{rates-traded}
+use Rattle.settings.proofs.Entries.{terms-length, terms-own, terms-only}
+use Rattle.settings.proofs.Rates.{limits-own, rates-traded}
+use Rattle.settings.proofs.Emptying.{emptied-count}
 
 -- the tables after
-abbrev pub placedTables : Tables → ℕ → ℕ → ℕ → List ℕ → Tables
-placedTables t id rate burst links = tables (withClient (t .clients) id rate burst) (t .handles) (t .lengths) links
-
--- the order that the tables mean
-pub order-means : (t : Tables) (order : List ℕ) → Ordered (t .links) order → orderOf t ≡ map owner order
-unfolding orderOf
-order-means t order o = ap (map owner) (ordered-walked (t .links) order o)
+abbrev pub placedTables : Tables → ℕ → ℕ → ℕ → Tables
+placedTables t id rate burst =
+    tables (withTerms (t .terms) id rate burst (burst * shares)) (t .stocks) (t .handles) (t .lengths) (t .links)
 
 -- no kind is both
 apart-kinds : (k : Kind) → isPrivate k ≡ true → isIndifferent k ≡ false
@@ -39,88 +36,109 @@ apart-kinds absent e = refl
 apart-kinds indifferent e = true-false e refl
 apart-kinds private e = refl
 
--- the id's places have left the order
-pub withdrawn : (c : Control) (t : Tables) (sound : SoundCore c t) (id : ℕ) (below : id < ids) (links : List ℕ)
-    → Withdraws c (t .clients) (t .links) id links
-    → Withdrawn links id (sound .shape .order)
-withdrawn c t sound id below links w = w (sound .shape .order) (sound .shape .ordered) (sound .shape .placed id below)
-
--- what a new client's place in control and tables is made of
-pub record Placement (c : Control) (t : Tables) (id kind rate burst : ℕ) (d : Control) (links : List ℕ) : Type 0 where
+-- What a new client's place is made of: control c and tables t before, b and u once the id is emptied, and control d after.
+pub record Placement (c : Control) (t : Tables) (id kind rate burst : ℕ) (b : Control) (stocks links : List ℕ) (d : Control)
+    : Type 0 where
   pub sound : SoundCore c t
   pub below : id < ids
+  pub bare : Emptied c t id b (tables (t .terms) stocks (t .handles) (t .lengths) links)
   -- it holds its rate of the threshold
   pub holds : held (joining kind rate burst) ≡ rate
-  pub cast : Recast (traded c (rateAt (t .clients) id) rate) d id (kindOf kind)
-  pub tight : Sound links
-  pub away : Withdrawn links id (sound .shape .order)
+  pub cast : Recast (withRates b (ratesAfter b (t .terms) id rate)) d id (kindOf kind)
 
-module _ (c : Control) (t : Tables) (id kind rate burst : ℕ) (d : Control) (links : List ℕ)
-    (p : Placement c t id kind rate burst d links) where
+module _ (c : Control) (t : Tables) (id kind rate burst : ℕ) (b : Control) (stocks links : List ℕ) (d : Control)
+    (p : Placement c t id kind rate burst b stocks links d) where
+  abbrev u : Tables
+  u = tables (t .terms) stocks (t .handles) (t .lengths) links
+
   abbrev after : Tables
-  after = placedTables t id rate burst links
+  after = placedTables u id rate burst
 
-  abbrev old : Shape c t
-  old = p .sound .shape
+  abbrev old : Shape b u
+  old = p .bare .shape
 
   own : (m : ℕ)
-      → field m (after .clients) id
-      ≡ cond (eqb m 5) 0 (cond (eqb m 3) 0 (cond (eqb m 2) (joining kind rate burst .level)
-      (cond (eqb m 1) burst (cond (eqb m 0) rate (field m (t .clients) id)))))
-  unfolding joining
-  own m = client-own (t .clients) (old .sizes .clients) id rate burst (p .below) m
+      → field m (after .terms) id
+      ≡ cond (eqb m levelColumn) (burst * shares)
+      (cond (eqb m burstColumn) burst (cond (eqb m rateColumn) rate (field m (t .terms) id)))
+  own m = terms-own (t .terms) (old .sizes .terms) id rate burst (burst * shares) (p .below) m
 
   client-after : clientAt d after id ≡ joining kind rate burst
-  unfolding clientAt queueAt ring joining
+  unfolding clientAt joining
   client-after = λ i. record {
     kind = recast-kind _ d id (kindOf kind) (p .cast) i;
-    rate = own 0 i;
-    burst = own 1 i;
-    level = own 2 i;
-    pool = own 3 i;
-    queue = map (packetAt after) (ring id (own 4 i) (own 5 i));
+    rate = own rateColumn i;
+    burst = own burstColumn i;
+    level = own levelColumn i;
   }
 
-  touch : Touch c t old d after id
+  -- emptying leaves the clients as they were
+  limits-then : ClientLimits (clientAt b u id)
+  unfolding clientAt kindAt
+  limits-then =
+      subst (λ (x : Control). ClientLimits (clientAt x u id)) (sym (p .bare .rest)) (limits-own c t (p .sound) id (p .below))
+
+  clients-then : clientsOf b u ≡ clientsOf c t
+  unfolding clientsOf clientAt kindAt
+  clients-then = ap (λ (x : Control). clientsOf x u) (p .bare .rest)
+
+  none : countAt stocks id ≡ 0
+  none = emptied-count c t id b u (p .below) (p .bare)
+
+  unplaced : placesOf id (old .order) ≡ []
+  unfolding ring
+  unplaced = rw none at (old .placed id (p .below)) ∙ cond-same (isIndifferent (kindAt b id)) []
+
+  touch : Touch b u old d after id
   unfolding packetAt ring
   touch = record {
     below = p .below;
     sizes = record {
-      clients = client-length (t .clients) (old .sizes .clients) id rate burst (p .below);
+      terms = terms-length (t .terms) (old .sizes .terms) id rate burst (burst * shares) (p .below);
+      stocks = old .sizes .stocks;
       handles = old .sizes .handles;
       lengths = old .sizes .lengths;
     };
-    only = client-only (t .clients) (old .sizes .clients) id rate burst (p .below);
+    onlyTerms = terms-only (t .terms) (old .sizes .terms) id rate burst (burst * shares) (p .below);
+    onlyStocks = λ m j l other. refl;
     packets = λ q other. refl;
     indifferents = p .cast .indifferent .others;
     privates = p .cast .private .others;
-    waitings = p .cast .waiting .others;
-    head = rw (own 4) (old .heads id (p .below));
-    waits = p .cast .waiting .own ∙ rw (own 5);
+    waitings = λ j other. ap (λ (x : Control). marked (x .waiting) j) (p .cast .rest);
+    head = old .heads id (p .below);
+    waits = ap (λ (x : Control). marked (x .waiting) id) (p .cast .rest) ∙ waits-here b u old id (p .below);
     apart = λ e. p .cast .indifferent .own ∙ apart-kinds (kindOf kind) (sym (p .cast .private .own) ∙ e);
-    ratesHeld = p .cast .rates
-        ∙ rates-traded c t (p .sound) id (p .below) rate (clientAt d after id) (ap held client-after ∙ p .holds);
-    sound = p .tight;
-    order = p .away .order;
-    ordered = p .away .ordered;
-    placed = p .away .none ∙ rw (own 5) (sym (cond-same (isIndifferent (kindAt d id)) []));
-    others = p .away .others;
+    ratesHeld = ap (λ (x : Control). x .rates) (p .cast .rest)
+        ∙ rates-traded b u old id (p .below) limits-then rate (clientAt d after id) (ap held client-after ∙ p .holds);
+    sound = old .sound;
+    order = old .order;
+    ordered = old .ordered;
+    placed = unplaced ∙ rw none (sym (cond-same (isIndifferent (kindAt d id)) []));
+    others = λ j other. refl;
   }
 
-  pub placed-shape : Shape d (placedTables t id rate burst links)
-  placed-shape = touch-shape c t old d after id touch
+  pub placed-shape : Shape d (placedTables u id rate burst)
+  placed-shape = touch-shape b u old d after id touch
 
+  -- d has what c has, but for the rates and the marks
   pub placed-opened : d .opened ≡ c .opened
-  placed-opened = p .cast .opened
+  placed-opened = ap (λ (x : Control). x .opened) (p .cast .rest) ∙ ap (λ (x : Control). x .opened) (p .bare .rest)
 
-  pub placed-state : stateOf d (placedTables t id rate burst links)
-      ≡ updated (stateOf c t) id (joining kind rate burst) (without id (stateOf c t .order))
+  clients-after : clientsOf d after ≡ put (clientsOf c t) id (joining kind rate burst)
+  clients-after =
+      touch-clients b u old d after id touch
+      ∙ ap₂ (λ (all : ℕ → Client) (one : Client). put all id one) clients-then client-after
+
+  side-after : sideOf d after ≡ emptied (sideOf c t) id
+  unfolding sideOf orderOf stocksOf stockAt queueAt packetAt
+  side-after = ap (λ (x : Control). sideOf x after) (p .cast .rest) ∙ p .bare .side
+
+  pub placed-state : stateOf d (placedTables u id rate burst)
+      ≡ updated (stateOf c t) (put (stateOf c t .clients) id (joining kind rate burst)) (emptied (stateOf c t .side) id)
   unfolding stateOf updated
   placed-state = λ i. record {
-    threshold = p .cast .threshold i;
-    discipline = p .cast .discipline i;
-    generator = p .cast .generator i .value;
-    clients = (touch-clients c t old d after id touch ∙ ap (put (clientsOf c t) id) client-after) i;
-    order = (order-means after (p .away .order) (p .away .ordered) ∙ p .away .rest
-        ∙ ap (without id) (sym (order-means t (old .order) (old .ordered)))) i;
+    threshold = (ap (λ (x : Control). x .threshold) (p .cast .rest) ∙ ap (λ (x : Control). x .threshold) (p .bare .rest)) i;
+    discipline = (ap (λ (x : Control). x .discipline) (p .cast .rest) ∙ ap (λ (x : Control). x .discipline) (p .bare .rest)) i;
+    clients = clients-after i;
+    side = side-after i;
   }

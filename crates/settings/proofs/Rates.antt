@@ -1,6 +1,6 @@
 -- The rates held together when an id's rate is traded for another: what an id holds of them is its rate, and an absent id's
 -- is 0 within the limits. Assumes nothing.
-use Prim.Native.Nat.{ℕ, _+_, _-_, _≤_, _<_}
+use Prim.Native.Nat.{ℕ, _≤_, _<_}
 use mathlib.Core.Path.{_≡_, refl, sym, ap, subst, _∙_}
 use mathlib.Core.Bool.{cond}
 use native.Mathlib.Omega.{arith}
@@ -14,8 +14,9 @@ use Rattle.definitions.proofs.Laws.Rates.{held, rates-put}
 use Rattle.tables.specs.declared.Control.{Control}
 use Rattle.tables.specs.Tables.{Tables, rateAt}
 use Rattle.tables.specs.Meaning.{clientAt, clientsOf, stateOf}
-use Rattle.tables.specs.Invariant.{SoundCore}
+use Rattle.tables.specs.Invariant.{Shape, SoundCore}
 use Rattle.tables.proofs.Touch.{client-own}
+use Rattle.settings.specs.Writes.{ratesAfter}
 
 held-limits : (x : Client) → ClientLimits x → held x ≡ x .rate
 unfolding held
@@ -26,21 +27,22 @@ held-limits x = go (x .kind)
     go indifferent l = refl
     go private l = refl
 
-module _ (c : Control) (t : Tables) (sound : SoundCore c t) (id : ℕ) (below : id < ids) where
-  pub limits-own : ClientLimits (clientAt c t id)
-  unfolding stateOf
-  limits-own = subst ClientLimits (client-own c t (sound .shape) id below) (sound .limits .clientLimits id)
+pub limits-own : (c : Control) (t : Tables) → SoundCore c t → (id : ℕ) → id < ids → ClientLimits (clientAt c t id)
+unfolding stateOf
+limits-own c t sound id below =
+    subst ClientLimits (client-own c t (sound .shape) id below) (sound .limits .clientLimits id)
 
-  held-rate : held (clientsOf c t id) ≡ rateAt (t .clients) id
+module _ (c : Control) (t : Tables) (shape : Shape c t) (id : ℕ) (below : id < ids)
+    (limits : ClientLimits (clientAt c t id)) where
+  held-rate : held (clientsOf c t id) ≡ rateAt (t .terms) id
   unfolding clientAt
-  held-rate = ap held (client-own c t (sound .shape) id below) ∙ held-limits (clientAt c t id) limits-own
+  held-rate = ap held (client-own c t shape id below) ∙ held-limits (clientAt c t id) limits
 
   -- no rate is more than all together
-  pub rate-held : rateAt (t .clients) id ≤ c .rates
+  pub rate-held : rateAt (t .terms) id ≤ c .rates
   unfolding rates activeRate held
-  rate-held = omega (arith, sound .shape .ratesHeld, held-rate, sumBelow-part ids id (activeRate (clientsOf c t)) below)
+  rate-held = omega (arith, shape .ratesHeld, held-rate, sumBelow-part ids id (activeRate (clientsOf c t)) below)
 
-  pub rates-traded : (rate : ℕ) (x : Client) → held x ≡ rate
-      → c .rates - rateAt (t .clients) id + rate ≡ rates (put (clientsOf c t) id x)
+  pub rates-traded : (rate : ℕ) (x : Client) → held x ≡ rate → ratesAfter c (t .terms) id rate ≡ rates (put (clientsOf c t) id x)
   rates-traded rate x e =
-      omega (arith, sound .shape .ratesHeld, held-rate, rate-held, rates-put (clientsOf c t) id x below)
+      omega (arith, shape .ratesHeld, held-rate, rate-held, rates-put (clientsOf c t) id x below)

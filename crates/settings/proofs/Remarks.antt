@@ -37,7 +37,7 @@ recast-kind c d id kind k = rw (k .indifferent .own, k .private .own) (go kind)
     go indifferent = refl
     go private = refl
 
--- an active id without the mark of the one type is of the other
+-- an active id without the mark of the one kind is of the other
 pub other-kind : (c : Control) (id : ℕ)
     → marked (c .indifferent) id ≡ false
     → isActive (kindAt c id) ≡ true

@@ -1,5 +1,5 @@
-// Join, change and leave. Each gives an id a new client, a leave that of nobody; only a change that keeps the type keeps the
-// client.
+// Join, change and leave. `empty` takes away what an id has to send, and `place_client` gives it the terms of a new client, a
+// leave those of nobody: change and leave are the one and then the other. Only a change that keeps the kind keeps the client.
 use definitions::BURST_LIMIT;
 use definitions::IDS;
 use definitions::INDIFFERENT;
@@ -9,37 +9,37 @@ use definitions::SHARES;
 use order::LINKS;
 use tables::Answered;
 use tables::BURST;
-use tables::CLIENTS;
 use tables::COUNT;
 use tables::Control;
 use tables::HEAD;
 use tables::LEVEL;
 use tables::POOL;
+use tables::RATE;
+use tables::STOCKS;
 use tables::STORE;
+use tables::TERMS;
 use tables::UNOPENED;
 ghost use mathlib.Core.Path.{_≡_};
 ghost use mathlib.Core.Bool.{true};
 ghost use mathlib.Core.List.{List};
-ghost use Prim.Native.Nat.{ℕ, _+_, _^_, _≤_, _<_, min};
+ghost use Prim.Native.Nat.{ℕ, _+_, _-_, _*_, _^_, _≤_, _<_, min};
 ghost use Rattle.definitions.specs.Event.{Join, Change, Leave};
-ghost use Rattle.definitions.specs.Sizes.{ids, places};
+ghost use Rattle.definitions.specs.Sizes.{ids, places, shares};
 ghost use Rattle.definitions.specs.Client.{kindOf, isActive, sameKind};
 ghost use Rattle.definitions.specs.Checks.{within, burstFits, termChecks, joinChecks, changeChecks, leaveChecks};
 ghost use Rattle.order.specs.Order.{Sound, Ordered};
 ghost use Rattle.order.specs.Owner.{placesOf};
 ghost use Rattle.tables.specs.Tables.{Tables, tables, rateAt, ring};
+ghost use Rattle.tables.specs.Controls.{withRates};
 ghost use Rattle.tables.specs.Meaning.{kindAt};
 ghost use Rattle.tables.specs.Invariant.{Valid};
 ghost use Rattle.tables.specs.Numbers.{firstFailed, refusal};
 ghost use Rattle.tables.specs.Promise.{Meets};
-ghost use Rattle.settings.specs.Writes.{Room, withTerms, retunedClients, withClient, traded, Remarked, Recast};
-ghost use Rattle.settings.specs.Writes.{Ready, Withdrawn, Withdraws};
+ghost use Rattle.settings.specs.Writes.{Room, Ready, withTerms, retunedLevel, ratesAfter, withBare};
+ghost use Rattle.settings.specs.Writes.{Remarked, Recast, Quiet, Withdrawn, Withdraws, Empties};
 
-// A client of neither type, with rate and burst 0, is nobody.
+// A client of neither kind, with rate and burst 0, is nobody.
 const NOBODY: u32 = 0;
-
-// Where a client's rate stands in the clients' table.
-const RATE: u32 = 0;
 
 // A word with the mark of an id set or taken.
 fn set_mark(word: u64, id: u32, on: bool) -> u64
@@ -52,7 +52,7 @@ fn set_mark(word: u64, id: u32, on: bool) -> u64
     marks::unmark(word, id)
 }
 
-// The control with an id's marks anew: those of the type, and nothing waiting.
+// The control with the marks of an id's kind anew.
 fn recast(control: Control, id: u32, kind: u32) -> Control
     requires { ⌜ id < ids ⌝ }
     ensures { λ r. ⌜ Recast control r id (kindOf kind) ⌝ }
@@ -60,14 +60,13 @@ fn recast(control: Control, id: u32, kind: u32) -> Control
     let mut after = control;
     after.indifferent = set_mark(control.indifferent, id, kind == INDIFFERENT);
     after.private = set_mark(control.private, id, kind == PRIVATE);
-    after.waiting = set_mark(control.waiting, id, false);
     after
 }
 
 // The control with one rate in the place of another.
 fn trade(control: Control, old: u32, rate: u32) -> Control
     requires { ⌜ (old ≤ control .rates) × (control .rates + rate < 2 ^ 32) ⌝ }
-    ensures { λ r. ⌜ r ≡ traded control old rate ⌝ }
+    ensures { λ r. ⌜ r ≡ withRates control (control .rates - old + rate) ⌝ }
 {
     let mut after = control;
     after.rates = control.rates - old + rate;
@@ -75,32 +74,31 @@ fn trade(control: Control, old: u32, rate: u32) -> Control
 }
 
 // Writes an id's rate, burst and level.
-fn set_terms(clients: &mut [u32; CLIENTS], id: u32, rate: u32, burst: u32, level: u32)
+fn set_terms(terms: &mut [u32; TERMS], id: u32, rate: u32, burst: u32, level: u32)
     requires { ⌜ id < ids ⌝ }
-    ensures { λ r. ⌜ now (clients .exit) ≡ withTerms (now (clients .entry)) id rate burst level ⌝ }
+    ensures { λ r. ⌜ now (terms .exit) ≡ withTerms (now (terms .entry)) id rate burst level ⌝ }
 {
-    clients[(RATE + id) as usize] = rate;
-    clients[(BURST + id) as usize] = burst;
-    clients[(LEVEL + id) as usize] = level;
+    terms[(RATE + id) as usize] = rate;
+    terms[(BURST + id) as usize] = burst;
+    terms[(LEVEL + id) as usize] = level;
 }
 
-// Gives an id a new client, in the place of any that it had: a full bucket, an empty pool and an empty queue.
+// Gives an id the terms of a new client, in the place of any that it had: the marks of the kind, and a full bucket.
+// What the id has to send is emptied before.
 fn place_client(
     control: Control,
-    clients: &mut [u32; CLIENTS],
+    terms: &mut [u32; TERMS],
     id: u32,
     kind: u32,
     rate: u32,
     burst: u32,
 ) -> Control
-    requires { ⌜ Room control (now clients) id rate burst ⌝ }
-    ensures { λ r. ⌜ Recast (traded control (rateAt (now (clients .entry)) id) rate) r id (kindOf kind) ⌝ }
-    ensures { λ r. ⌜ now (clients .exit) ≡ withClient (now (clients .entry)) id rate burst ⌝ }
+    requires { ⌜ Room control (now terms) id rate burst ⌝ }
+    ensures { λ r. ⌜ Recast (withRates control (ratesAfter control (now (terms .entry)) id rate)) r id (kindOf kind) ⌝ }
+    ensures { λ r. ⌜ now (terms .exit) ≡ withTerms (now (terms .entry)) id rate burst (burst * shares) ⌝ }
 {
-    let old = clients[(RATE + id) as usize];
-    set_terms(clients, id, rate, burst, burst * SHARES);
-    clients[(POOL + id) as usize] = 0;
-    clients[(COUNT + id) as usize] = 0;
+    let old = terms[(RATE + id) as usize];
+    set_terms(terms, id, rate, burst, burst * SHARES);
     recast(trade(control, old, rate), id, kind)
 }
 
@@ -110,15 +108,16 @@ fn least(a: u32, b: u32) -> u32
     if a < b { a } else { b }
 }
 
-// Gives a client of the same type new terms: a level above the new burst comes down to it.
-fn retune(control: Control, clients: &mut [u32; CLIENTS], id: u32, rate: u32, burst: u32) -> Control
-    requires { ⌜ Room control (now clients) id rate burst ⌝ }
-    ensures { λ r. ⌜ r ≡ traded control (rateAt (now (clients .entry)) id) rate ⌝ }
-    ensures { λ r. ⌜ now (clients .exit) ≡ retunedClients (now (clients .entry)) id rate burst ⌝ }
+// Gives a client of the same kind new terms: a level above the new burst comes down to it.
+fn retune(control: Control, terms: &mut [u32; TERMS], id: u32, rate: u32, burst: u32) -> Control
+    requires { ⌜ Room control (now terms) id rate burst ⌝ }
+    ensures { λ r. ⌜ r ≡ withRates control (ratesAfter control (now (terms .entry)) id rate) ⌝ }
+    ensures { λ r. ⌜ now (terms .exit)
+        ≡ withTerms (now (terms .entry)) id rate burst (retunedLevel (now (terms .entry)) id burst) ⌝ }
 {
-    let old = clients[(RATE + id) as usize];
-    let level = least(clients[(LEVEL + id) as usize], burst * SHARES);
-    set_terms(clients, id, rate, burst, level);
+    let old = terms[(RATE + id) as usize];
+    let level = least(terms[(LEVEL + id) as usize], burst * SHARES);
+    set_terms(terms, id, rate, burst, level);
     trade(control, old, rate)
 }
 
@@ -139,19 +138,42 @@ fn unlink_ring(links: &mut [u32; LINKS], id: u32, head: u32, count: u32)
 }
 
 // Takes what an id has waiting out of the order, where a private client has nothing.
-fn withdraw(control: Control, clients: &[u32; CLIENTS], links: &mut [u32; LINKS], id: u32)
-    requires { ⌜ Ready (now clients) (now links) id ⌝ }
+fn withdraw(control: Control, stocks: &[u32; STOCKS], links: &mut [u32; LINKS], id: u32)
+    requires { ⌜ Ready (now stocks) (now links) id ⌝ }
     ensures { λ r. ⌜ Sound (now (links .exit)) ⌝ }
-    ensures { λ r. ⌜ Withdraws control (now (clients .entry)) (now (links .entry)) id (now (links .exit)) ⌝ }
+    ensures { λ r. ⌜ Withdraws control (now (stocks .entry)) (now (links .entry)) id (now (links .exit)) ⌝ }
 {
     if marks::has(control.indifferent, id) {
         unlink_ring(
             links,
             id,
-            clients[(HEAD + id) as usize],
-            clients[(COUNT + id) as usize],
+            stocks[(HEAD + id) as usize],
+            stocks[(COUNT + id) as usize],
         );
     }
+}
+
+// Makes an id's pool and queue empty, and takes its mark of waiting.
+fn clear(control: Control, stocks: &mut [u32; STOCKS], id: u32) -> Control
+    requires { ⌜ id < ids ⌝ }
+    ensures { λ r. ⌜ Quiet control r id ⌝ }
+    ensures { λ r. ⌜ now (stocks .exit) ≡ withBare (now (stocks .entry)) id ⌝ }
+{
+    stocks[(POOL + id) as usize] = 0;
+    stocks[(COUNT + id) as usize] = 0;
+    let mut after = control;
+    after.waiting = marks::unmark(control.waiting, id);
+    after
+}
+
+// Takes away all that an id has to send, its places in the order too. No handle and no length is written.
+fn empty(control: Control, stocks: &mut [u32; STOCKS], links: &mut [u32; LINKS], id: u32) -> Control
+    requires { ⌜ Ready (now stocks) (now links) id ⌝ }
+    ensures { λ r. ⌜ Empties control (now (stocks .entry)) (now (links .entry)) id
+        r (now (stocks .exit)) (now (links .exit)) ⌝ }
+{
+    withdraw(control, stocks, links, id);
+    clear(control, stocks, id)
 }
 
 // The bounds that the terms are held to.
@@ -161,7 +183,7 @@ fn within(low: u32, high: u32, x: u32) -> bool
     low <= x && x <= high
 }
 
-fn is_type(kind: u32) -> bool
+fn is_kind(kind: u32) -> bool
     ensures { λ r. ⌜ r ≡ isActive (kindOf kind) ⌝ }
 {
     kind == INDIFFERENT || kind == PRIVATE
@@ -180,7 +202,7 @@ fn burst_fits(kind: u32, burst: u32) -> bool
 fn terms_number(threshold: u32, others: u32, kind: u32, rate: u32, burst: u32) -> u32
     ensures { λ r. ⌜ r ≡ firstFailed (termChecks threshold others kind rate burst) ⌝ }
 {
-    if !is_type(kind) {
+    if !is_kind(kind) {
         return 7;
     }
     if !within(1, SHARES, rate) {
@@ -230,26 +252,26 @@ fn leave_number(control: Control, id: u32) -> u32
 // The number that a change is refused with: 19, 4, 5, and by the terms, with the old rate taken off.
 fn change_number(
     control: Control,
-    clients: &[u32; CLIENTS],
+    terms: &[u32; TERMS],
     id: u32,
     kind: u32,
     rate: u32,
     burst: u32,
 ) -> u32
-    requires { ⌜ (control .opened ≡ true → id < ids → rateAt (now clients) id ≤ control .rates) ⌝ }
-    ensures { λ r. ⌜ ((h l k : List ℕ) → Valid control (tables (now (clients .entry)) h l k)
-        → r ≡ refusal control (tables (now (clients .entry)) h l k) (λ s. changeChecks s id kind rate burst)) ⌝ }
+    requires { ⌜ (control .opened ≡ true → id < ids → rateAt (now terms) id ≤ control .rates) ⌝ }
+    ensures { λ r. ⌜ ((s h l k : List ℕ) → Valid control (tables (now (terms .entry)) s h l k)
+        → r ≡ refusal control (tables (now (terms .entry)) s h l k) (λ s. changeChecks s id kind rate burst)) ⌝ }
 {
     let number = leave_number(control, id);
     if number != 0 {
         return number;
     }
-    let others = control.rates - clients[(RATE + id) as usize];
+    let others = control.rates - terms[(RATE + id) as usize];
     terms_number(control.threshold, others, kind, rate, burst)
 }
 
-// Whether an active client is of the type already.
-fn keeps_type(control: Control, id: u32, kind: u32) -> bool
+// Whether an active client is of the kind already.
+fn keeps_kind(control: Control, id: u32, kind: u32) -> bool
     requires { ⌜ isActive (kindAt control id) ≡ true ⌝ }
     ensures { λ r. ⌜ r ≡ sameKind (kindAt control id) (kindOf kind) ⌝ }
 {
@@ -262,7 +284,8 @@ fn keeps_type(control: Control, id: u32, kind: u32) -> bool
 // Sets an inactive id up with a client (paper 01, "Join"). Refused: 19, 4, 6, 7, 8, 9, 10.
 pub fn join(
     control: Control,
-    clients: &mut [u32; CLIENTS],
+    terms: &mut [u32; TERMS],
+    stocks: &mut [u32; STOCKS],
     handles: &[u32; STORE],
     lengths: &[u32; STORE],
     links: &[u32; LINKS],
@@ -271,23 +294,25 @@ pub fn join(
     rate: u32,
     burst: u32,
 ) -> Answered
-    requires { ⌜ Valid control (tables (now clients) (now handles) (now lengths) (now links)) ⌝ }
+    requires { ⌜ Valid control (tables (now terms) (now stocks) (now handles) (now lengths) (now links)) ⌝ }
     ensures { λ r. ⌜ Meets (Join id kind rate burst) control
-        (tables (now (clients .entry)) (now (handles .entry)) (now (lengths .entry)) (now (links .entry))) r
-        (tables (now (clients .exit)) (now (handles .entry)) (now (lengths .entry)) (now (links .entry))) ⌝ }
+        (tables (now (terms .entry)) (now (stocks .entry)) (now (handles .entry)) (now (lengths .entry)) (now (links .entry))) r
+        (tables (now (terms .exit)) (now (stocks .exit)) (now (handles .entry)) (now (lengths .entry)) (now (links .entry))) ⌝ }
 {
     let number = join_number(control, id, kind, rate, burst);
     if number != 0 {
         return tables::refused(control, number);
     }
-    tables::accepted(place_client(control, clients, id, kind, rate, burst))
+    let bare = clear(control, stocks, id);
+    tables::accepted(place_client(bare, terms, id, kind, rate, burst))
 }
 
-// Gives an active client new terms, and a new start where its type differs (paper 01, "Change").
+// Gives an active client new terms, and a new start where its kind differs (paper 01, "Change").
 // Refused: 19, 4, 5, 7, 8, 9, 10.
 pub fn change(
     control: Control,
-    clients: &mut [u32; CLIENTS],
+    terms: &mut [u32; TERMS],
+    stocks: &mut [u32; STOCKS],
     handles: &[u32; STORE],
     lengths: &[u32; STORE],
     links: &mut [u32; LINKS],
@@ -296,40 +321,41 @@ pub fn change(
     rate: u32,
     burst: u32,
 ) -> Answered
-    requires { ⌜ Valid control (tables (now clients) (now handles) (now lengths) (now links)) ⌝ }
+    requires { ⌜ Valid control (tables (now terms) (now stocks) (now handles) (now lengths) (now links)) ⌝ }
     ensures { λ r. ⌜ Meets (Change id kind rate burst) control
-        (tables (now (clients .entry)) (now (handles .entry)) (now (lengths .entry)) (now (links .entry))) r
-        (tables (now (clients .exit)) (now (handles .entry)) (now (lengths .entry)) (now (links .exit))) ⌝ }
+        (tables (now (terms .entry)) (now (stocks .entry)) (now (handles .entry)) (now (lengths .entry)) (now (links .entry))) r
+        (tables (now (terms .exit)) (now (stocks .exit)) (now (handles .entry)) (now (lengths .entry)) (now (links .exit))) ⌝ }
 {
-    let number = change_number(control, clients, id, kind, rate, burst);
+    let number = change_number(control, terms, id, kind, rate, burst);
     if number != 0 {
         return tables::refused(control, number);
     }
-    if keeps_type(control, id, kind) {
-        return tables::accepted(retune(control, clients, id, rate, burst));
+    if keeps_kind(control, id, kind) {
+        return tables::accepted(retune(control, terms, id, rate, burst));
     }
-    withdraw(control, clients, links, id);
-    tables::accepted(place_client(control, clients, id, kind, rate, burst))
+    let bare = empty(control, stocks, links, id);
+    tables::accepted(place_client(bare, terms, id, kind, rate, burst))
 }
 
 // Takes an active client away, with all that it has (paper 01, "Leave"). Refused: 19, 4, 5.
 pub fn leave(
     control: Control,
-    clients: &mut [u32; CLIENTS],
+    terms: &mut [u32; TERMS],
+    stocks: &mut [u32; STOCKS],
     handles: &[u32; STORE],
     lengths: &[u32; STORE],
     links: &mut [u32; LINKS],
     id: u32,
 ) -> Answered
-    requires { ⌜ Valid control (tables (now clients) (now handles) (now lengths) (now links)) ⌝ }
+    requires { ⌜ Valid control (tables (now terms) (now stocks) (now handles) (now lengths) (now links)) ⌝ }
     ensures { λ r. ⌜ Meets (Leave id) control
-        (tables (now (clients .entry)) (now (handles .entry)) (now (lengths .entry)) (now (links .entry))) r
-        (tables (now (clients .exit)) (now (handles .entry)) (now (lengths .entry)) (now (links .exit))) ⌝ }
+        (tables (now (terms .entry)) (now (stocks .entry)) (now (handles .entry)) (now (lengths .entry)) (now (links .entry))) r
+        (tables (now (terms .exit)) (now (stocks .exit)) (now (handles .entry)) (now (lengths .entry)) (now (links .exit))) ⌝ }
 {
     let number = leave_number(control, id);
     if number != 0 {
         return tables::refused(control, number);
     }
-    withdraw(control, clients, links, id);
-    tables::accepted(place_client(control, clients, id, NOBODY, 0, 0))
+    let bare = empty(control, stocks, links, id);
+    tables::accepted(place_client(bare, terms, id, NOBODY, 0, 0))
 }

@@ -1,4 +1,4 @@
--- `settings::burst_fits` meets its contract: the test of the type decides which bound is asked. Assumes nothing.
+-- `settings::burst_fits` meets its contract: the test of the kind decides which bound is asked. Assumes nothing.
 use borrow.Author.Needs.{needs}
 use borrow.Author.Tests.{eq-eqb, ne-eqb}
 use Rattle.definitions.specs.Sizes.{indifferentKind, burstLimit}

@@ -9,15 +9,15 @@ use Rattle.settings.proofs.Asking.{leave-opened, leave-below, change-fi
 use Rattle.settings.proofs.change_number.Statement.{statement}
 use Rattle.settings.proofs.change_number.Tie as tie
 
--- any tables with these clients: the other tables are not asked
+-- any tables with these terms: the other tables are not asked
 some : tie.Start → Tables
-some start = tables (start .args .clients .now) [] [] []
+some start = tables (start .args .terms .now) [] [] [] []
 
 leave-number-requires : tie.Need-leave-number-requires
 leave-number-requires c κs = search needs
 
 returns : tie.Need-returns
-returns c h l k valid =
+returns c s h l k valid =
     let a = c .before .before .args in
     change-first (a .control) _ (a .id) (a .kind) (a .rate) (a .burst) _ (c .before .leave-number .ensures _) (c .if1 .taken)
 
@@ -54,10 +54,10 @@ terms-number-requires c κs = search needs
 
 returns-2 : tie.Need-returns-2
 unfolding ids field
-returns-2 c h l k valid =
+returns-2 c s h l k valid =
     let e = c .before .before .before in
     let a = e .before .before .args in
-    let t = tables (a .clients .now) h l k in
+    let t = tables (a .terms .now) s h l k in
     let none = sym (e .before .leave-number .ensures t) ∙ e .if1 .left in
     c .terms-number .ensures
     ∙ change-terms (a .control) t (a .id) (a .kind) (a .rate) (a .burst) (valid (leave-opened (a .control) t (a .id) none)) none

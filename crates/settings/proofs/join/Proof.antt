@@ -2,7 +2,7 @@
 -- Assumes nothing.
 use borrow.Author.Needs.{needs}
 use mathlib.Core.Path.{sym, _∙_}
-use Rattle.settings.proofs.Joining.{join-refused, join-room, join-accepted}
+use Rattle.settings.proofs.Joining.{join-refused, join-below, join-room, join-accepted}
 use Rattle.settings.proofs.join.Statement.{statement}
 use Rattle.settings.proofs.join.Tie as tie
 
@@ -19,12 +19,22 @@ returns c =
     join-refused (a .control) _ (start .pre) (a .id) (a .kind) (a .rate) (a .burst) (c .refused .result) _
     (c .refused .ensures) (c .before .before .join-number .ensures _ (start .pre)) (c .before .if1 .taken)
 
+clear-requires : tie.Need-clear-requires
+clear-requires c κs =
+    let e = c .before in
+    let start = e .before .before in
+    let a = start .args in
+    join-below (a .control) _ (start .pre) (a .id) (a .kind) (a .rate) (a .burst)
+    (sym (e .before .join-number .ensures _ (start .pre)) ∙ e .if1 .left)
+
 place-client-requires : tie.Need-place-client-requires
 place-client-requires c κs =
-    let start = c .before .before .before in
+    let q = c .before .clear in
+    let e = c .before .before .before in
+    let start = e .before .before in
     let a = start .args in
     join-room (a .control) _ (start .pre) (a .id) (a .kind) (a .rate) (a .burst)
-    (sym (c .before .before .join-number .ensures _ (start .pre)) ∙ c .before .if1 .left)
+    (sym (e .before .join-number .ensures _ (start .pre)) ∙ e .if1 .left) (q .result) (q .ensures .0)
 
 accepted-requires : tie.Need-accepted-requires
 accepted-requires c κs = search needs
@@ -32,15 +42,16 @@ accepted-requires c κs = search needs
 returns-2 : tie.Need-returns-2
 returns-2 c =
     let p = c .before .place-client in
-    let e = c .before .before .before in
+    let q = c .before .before .before .clear in
+    let e = c .before .before .before .before .before in
     let start = e .before .before in
     let a = start .args in
-    rw (p .ensures .1)
+    rw (p .ensures .1, q .ensures .1)
     (join-accepted (a .control) _ (start .pre) (a .id) (a .kind) (a .rate) (a .burst)
-    (sym (e .before .join-number .ensures _ (start .pre)) ∙ e .if1 .left) (p .result) (p .ensures .0) (c .accepted .result)
-    (c .accepted .ensures))
+    (sym (e .before .join-number .ensures _ (start .pre)) ∙ e .if1 .left) (q .result) (q .ensures .0) (p .result) (p .ensures .0)
+    (c .accepted .result) (c .accepted .ensures))
 
 pub join-spec : {M : Type 1} → statement M
 join-spec =
     tie.close
-    (tie.spec join-number-requires refused-requires returns place-client-requires accepted-requires returns-2)
+    (tie.spec join-number-requires refused-requires returns clear-requires place-client-requires accepted-requires returns-2)

@@ -1,4 +1,4 @@
--- `settings::leave` meets its contract: it is refused with the first number that fails, and else withdraws the client and puts
+-- `settings::leave` meets its contract: it is refused with the first number that fails, and else empties the id and puts
 -- nobody in its place. Assumes nothing.
 use borrow.Author.Needs.{needs}
 use mathlib.Core.Path.{sym, _∙_}
@@ -19,17 +19,19 @@ returns c =
     leave-refused (a .control) _ (start .pre) (a .id) (c .refused .result) _ (c .refused .ensures)
     (c .before .before .leave-number .ensures _) (c .before .if1 .taken)
 
-withdraw-requires : tie.Need-withdraw-requires
-withdraw-requires c κs =
+empty-requires : tie.Need-empty-requires
+empty-requires c κs =
     let e = c .before .before in
     let start = e .before .before in
     leave-ready (start .args .control) _ (start .pre) (start .args .id) (sym (e .before .leave-number .ensures _) ∙ e .if1 .left)
 
 place-client-requires : tie.Need-place-client-requires
 place-client-requires c κs =
+    let q = c .before .empty in
     let e = c .before .before .before .before in
     let start = e .before .before in
     leave-room (start .args .control) _ (start .pre) (start .args .id) (sym (e .before .leave-number .ensures _) ∙ e .if1 .left)
+    (q .result) _ _ (q .ensures)
 
 accepted-requires : tie.Need-accepted-requires
 accepted-requires c κs = search needs
@@ -37,15 +39,15 @@ accepted-requires c κs = search needs
 returns-2 : tie.Need-returns-2
 returns-2 c =
     let p = c .before .place-client in
-    let w = c .before .before .before .withdraw in
+    let q = c .before .before .before .empty in
     let e = c .before .before .before .before .before .before in
     let start = e .before .before in
     let a = start .args in
     rw (p .ensures .1)
     (leave-accepted (a .control) _ (start .pre) (a .id) (sym (e .before .leave-number .ensures _) ∙ e .if1 .left)
-    (p .result) _ (p .ensures .0) (w .ensures .0) (w .ensures .1) (c .accepted .result) (c .accepted .ensures))
+    (q .result) _ _ (q .ensures) (p .result) (p .ensures .0) (c .accepted .result) (c .accepted .ensures))
 
 pub leave-spec : {M : Type 1} → statement M
 leave-spec =
     tie.close
-    (tie.spec leave-number-requires refused-requires returns withdraw-requires place-client-requires accepted-requires returns-2)
+    (tie.spec leave-number-requires refused-requires returns empty-requires place-client-requires accepted-requires returns-2)

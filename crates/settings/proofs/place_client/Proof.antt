@@ -1,4 +1,4 @@
--- `settings::place_client` meets its contract: the id's numbers are written one after the other, then the control follows.
+-- `settings::place_client` meets its contract: the id's terms are written, then the control follows.
 -- Assumes nothing.
 use borrow.Author.Needs.{needs}
 use Rattle.definitions.specs.Sizes.{ids, shares, burstLimit}
@@ -30,38 +30,6 @@ set-terms-requires : tie.Need-set-terms-requires
 unfolding ids
 set-terms-requires c κs = search needs
 
-add-clients : tie.Need-add-clients
-unfolding ids
-add-clients c = search needs
-
-cast-clients : tie.Need-cast-clients
-unfolding ids
-cast-clients c = search needs
-
-mul-clients : tie.Need-mul-clients
-unfolding ids
-mul-clients c = search needs
-
-element-write-clients : tie.Need-element-write-clients
-unfolding ids
-element-write-clients c = search needs
-
-add-clients-2 : tie.Need-add-clients-2
-unfolding ids
-add-clients-2 c = search needs
-
-cast-clients-2 : tie.Need-cast-clients-2
-unfolding ids
-cast-clients-2 c = search needs
-
-mul-clients-2 : tie.Need-mul-clients-2
-unfolding ids
-mul-clients-2 c = search needs
-
-element-write-clients-2 : tie.Need-element-write-clients-2
-unfolding ids
-element-write-clients-2 c = search needs
-
 trade-requires : tie.Need-trade-requires
 unfolding ids field
 trade-requires c κs = search needs
@@ -73,7 +41,7 @@ recast-requires c κs = search needs
 returns : tie.Need-returns
 unfolding ids shares field
 returns c =
-    (rw (c .before .trade .ensures) at (c .recast .ensures), rw (c .before .before .set-terms .ensures))
+    (rw (c .before .trade .ensures) at (c .recast .ensures), c .before .before .set-terms .ensures)
 
 pub place-client-spec : {M : Type 1} → statement M
 place-client-spec =
@@ -85,14 +53,6 @@ place-client-spec =
     element-copy-out-old
     mul-set-terms
     set-terms-requires
-    add-clients
-    cast-clients
-    mul-clients
-    element-write-clients
-    add-clients-2
-    cast-clients-2
-    mul-clients-2
-    element-write-clients-2
     trade-requires
     recast-requires
     returns)

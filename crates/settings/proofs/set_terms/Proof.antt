@@ -4,53 +4,53 @@ use Rattle.definitions.specs.Sizes.{ids}
 use Rattle.settings.proofs.set_terms.Statement.{statement}
 use Rattle.settings.proofs.set_terms.Tie as tie
 
-add-clients : tie.Need-add-clients
+add-terms : tie.Need-add-terms
 unfolding ids
-add-clients c = search needs
+add-terms c = search needs
 
-cast-clients : tie.Need-cast-clients
+cast-terms : tie.Need-cast-terms
 unfolding ids
-cast-clients c = search needs
+cast-terms c = search needs
 
-mul-clients : tie.Need-mul-clients
+mul-terms : tie.Need-mul-terms
 unfolding ids
-mul-clients c = search needs
+mul-terms c = search needs
 
-element-write-clients : tie.Need-element-write-clients
+element-write-terms : tie.Need-element-write-terms
 unfolding ids
-element-write-clients c = search needs
+element-write-terms c = search needs
 
-add-clients-2 : tie.Need-add-clients-2
+add-terms-2 : tie.Need-add-terms-2
 unfolding ids
-add-clients-2 c = search needs
+add-terms-2 c = search needs
 
-cast-clients-2 : tie.Need-cast-clients-2
+cast-terms-2 : tie.Need-cast-terms-2
 unfolding ids
-cast-clients-2 c = search needs
+cast-terms-2 c = search needs
 
-mul-clients-2 : tie.Need-mul-clients-2
+mul-terms-2 : tie.Need-mul-terms-2
 unfolding ids
-mul-clients-2 c = search needs
+mul-terms-2 c = search needs
 
-element-write-clients-2 : tie.Need-element-write-clients-2
+element-write-terms-2 : tie.Need-element-write-terms-2
 unfolding ids
-element-write-clients-2 c = search needs
+element-write-terms-2 c = search needs
 
-add-clients-3 : tie.Need-add-clients-3
+add-terms-3 : tie.Need-add-terms-3
 unfolding ids
-add-clients-3 c = search needs
+add-terms-3 c = search needs
 
-cast-clients-3 : tie.Need-cast-clients-3
+cast-terms-3 : tie.Need-cast-terms-3
 unfolding ids
-cast-clients-3 c = search needs
+cast-terms-3 c = search needs
 
-mul-clients-3 : tie.Need-mul-clients-3
+mul-terms-3 : tie.Need-mul-terms-3
 unfolding ids
-mul-clients-3 c = search needs
+mul-terms-3 c = search needs
 
-element-write-clients-3 : tie.Need-element-write-clients-3
+element-write-terms-3 : tie.Need-element-write-terms-3
 unfolding ids
-element-write-clients-3 c = search needs
+element-write-terms-3 c = search needs
 
 returns : tie.Need-returns
 unfolding ids
@@ -60,16 +60,16 @@ pub set-terms-spec : {M : Type 1} → statement M
 set-terms-spec =
     tie.close
     (tie.spec
-    add-clients
-    cast-clients
-    mul-clients
-    element-write-clients
-    add-clients-2
-    cast-clients-2
-    mul-clients-2
-    element-write-clients-2
-    add-clients-3
-    cast-clients-3
-    mul-clients-3
-    element-write-clients-3
+    add-terms
+    cast-terms
+    mul-terms
+    element-write-terms
+    add-terms-2
+    cast-terms-2
+    mul-terms-2
+    element-write-terms-2
+    add-terms-3
+    cast-terms-3
+    mul-terms-3
+    element-write-terms-3
     returns)

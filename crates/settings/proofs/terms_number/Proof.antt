@@ -11,12 +11,12 @@ use Rattle.tables.specs.Numbers.{firstFailed}
 use Rattle.settings.proofs.terms_number.Statement.{statement}
 use Rattle.settings.proofs.terms_number.Tie as tie
 
-is-type-requires : tie.Need-is-type-requires
-is-type-requires c κs = search needs
+is-kind-requires : tie.Need-is-kind-requires
+is-kind-requires c κs = search needs
 
 returns : tie.Need-returns
 unfolding firstFailed termChecks shares
-returns c = simp (sym (c .before .is-type .ensures) ∙ not-true _ (c .if1 .taken))
+returns c = simp (sym (c .before .is-kind .ensures) ∙ not-true _ (c .if1 .taken))
 
 within-requires : tie.Need-within-requires
 within-requires c κs = search needs
@@ -26,7 +26,7 @@ unfolding firstFailed termChecks shares
 returns-2 c =
     let e = c .before .before in
     simp (
-      sym (e .before .is-type .ensures) ∙ not-false _ (e .if1 .left),
+      sym (e .before .is-kind .ensures) ∙ not-false _ (e .if1 .left),
       sym (c .before .within .ensures) ∙ not-true _ (c .if2 .taken),
     )
 
@@ -39,7 +39,7 @@ returns-3 c =
     let f = c .before .before in
     let e = f .before .before in
     simp (
-      sym (e .before .is-type .ensures) ∙ not-false _ (e .if1 .left),
+      sym (e .before .is-kind .ensures) ∙ not-false _ (e .if1 .left),
       sym (f .before .within .ensures) ∙ not-false _ (f .if2 .left),
       sym (c .before .burst-fits .ensures) ∙ not-true _ (c .if3 .taken),
     )
@@ -72,7 +72,7 @@ returns-4 c =
       c .before .before .before .wide .ensures,
     ) in
     simp (
-      sym (e .before .is-type .ensures) ∙ not-false _ (e .if1 .left),
+      sym (e .before .is-kind .ensures) ∙ not-false _ (e .if1 .left),
       sym (f .before .within .ensures) ∙ not-false _ (f .if2 .left),
       sym (g .before .burst-fits .ensures) ∙ not-false _ (g .if3 .left),
       lt-leb _ _ past,
@@ -94,7 +94,7 @@ returns-5 c =
       c .before .before .before .wide .ensures,
     ) in
     simp (
-      sym (e .before .is-type .ensures) ∙ not-false _ (e .if1 .left),
+      sym (e .before .is-kind .ensures) ∙ not-false _ (e .if1 .left),
       sym (f .before .within .ensures) ∙ not-false _ (f .if2 .left),
       sym (g .before .burst-fits .ensures) ∙ not-false _ (g .if3 .left),
       le-leb _ _ fits,
@@ -103,5 +103,5 @@ returns-5 c =
 pub terms-number-spec : {M : Type 1} → statement M
 terms-number-spec =
     tie.close
-    (tie.spec is-type-requires returns within-requires returns-2 burst-fits-requires returns-3 wide-requires wide-requires-2
+    (tie.spec is-kind-requires returns within-requires returns-2 burst-fits-requires returns-3 wide-requires wide-requires-2
     wide-requires-3 add-if4 returns-4 returns-5)
