@@ -13,21 +13,21 @@ use Rattle.grammar.specs.Bytes.{lineFeed, textLimit}
 use Rattle.grammar.specs.Numerals.{isDigit, leading, behind, isNumeral, valueFrom, digits, decimal}
 use Rattle.grammar.specs.Templates.{limits, numbersFit, filled, matched}
 use Rattle.grammar.specs.Grammar.{rules, sized, parsedBy, parsed}
-use Rattle.grammar.proofs.RoundTrip.{forms}
+use Rattle.grammar.proofs.Rules.{forms}
 use Rattle.grammar.specs.Printout.{printed, answered, printedFrom, printout}
 use Rattle.grammar.specs.Lines.{lines, heldFrom, heard, toldFrom, told}
 use Rattle.grammar.specs.Sheet.{noted, notedFrom}
 use Rattle.grammar.specs.Examples.{PaperPrintout, BadPrintout, silence, CallAndSilence, tooLong, LimitNeeded}
 
 unfoldable pub printing : Type 0
-unfolding everything textLimit numberLimit handleLimit isDigit leading behind isNumeral valueFrom digits decimal filled matched limits numbersFit forms sized
-    parsedBy parsed printed answered printedFrom printout
+unfolding everything textLimit numberLimit handleLimit isDigit leading behind isNumeral valueFrom digits decimal filled matched
+    limits numbersFit forms sized parsedBy parsed printed answered printedFrom printout
 printing = Unit {0}
 
 -- and what reads a text beside its printout
 unfoldable pub comparing : Type 0
-unfolding printing after answerAt dealingAt traceOf isTick names indifferentBy indifferentAt isStruck kept departure lines heldFrom heard
-    toldFrom zip zipWith noted notedFrom
+unfolding printing after answerAt dealingAt traceOf isTick names indifferentBy indifferentAt isStruck kept departure lines
+    heldFrom heard toldFrom zip zipWith noted notedFrom
 comparing = Unit {0}
 
 pub paper-printout : PaperPrintout

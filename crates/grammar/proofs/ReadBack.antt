@@ -45,7 +45,8 @@ unfolding filled
 filled-byte b bs [] g = refl
 filled-byte b bs (n ∷ ns) g = rw (filled, g)
 
-pub filled-gap : (b : ℕ) (bs : List ℕ) (n : ℕ) (ns : List ℕ) → isGap b ≡ true → filled (b ∷ bs) (n ∷ ns) ≡ decimal n ++ filled bs ns
+pub filled-gap : (b : ℕ) (bs : List ℕ) (n : ℕ) (ns : List ℕ) → isGap b ≡ true
+    → filled (b ∷ bs) (n ∷ ns) ≡ decimal n ++ filled bs ns
 unfolding filled
 filled-gap b bs n ns g = rw (filled, g)
 

@@ -15,8 +15,9 @@ use Rattle.grammar.specs.declared.Line.the-variants.{Form, Refused}
 use Rattle.grammar.specs.Bytes.{bytes}
 use Rattle.grammar.specs.Numerals.{isDigit, leading, behind, isNumeral, valueFrom, digits, decimal}
 use Rattle.grammar.specs.Templates.{isGap, limits, numbersFit, withNumber, filled, matched}
-use Rattle.grammar.specs.Grammar.{Rule, openForms, termsForms, joinForms, changeForms, leaveForms, loadForms, arriveForms, tickForms, rules, sized, orElse, parsedBy, parsed}
+use Rattle.grammar.specs.Grammar.{Rule, rules, sized, orElse, parsedBy, parsed}
 use Rattle.grammar.specs.Printout.{printed}
+use Rattle.grammar.proofs.Rules.{forms}
 
 -- digits and what stands behind them are the whole
 leading-behind : (l : List ℕ) → length (leading l) + length (behind l) ≡ length l
@@ -94,7 +95,7 @@ parsedBy-length n (r ∷ rs) fits l = go (matched (r .template) l) (matched-leng
 
 -- the shortest form is `(tick)`
 pub parsed-length : (l : List ℕ) → Holds l 6 (parsed l)
-unfolding parsed rules openForms termsForms joinForms changeForms leaveForms loadForms arriveForms tickForms
+unfolding parsed forms
 parsed-length l = parsedBy-length 6 rules (omega arith) l
 
 -- a line without a form prints thirteen bytes

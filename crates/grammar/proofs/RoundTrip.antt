@@ -6,14 +6,10 @@ use mathlib.Core.Bool.{Bool, true, _&&_, and-eq-true-iff}
 use mathlib.Core.List.{List, [], _∷_, List·Memᴰ, List·Memᴰ·head, List·Memᴰ·tail}
 use Rattle.definitions.specs.Checks.{within}
 use Rattle.grammar.specs.Numerals.{isDigit}
-use Rattle.grammar.specs.Grammar.{Rule, openForms, termsForms, joinForms, changeForms, leaveForms, loadForms, arriveForms, tickForms, rules, sized, parsedBy, parsed}
+use Rattle.grammar.specs.Grammar.{Rule, rules, sized, parsedBy, parsed}
 use Rattle.grammar.specs.RoundTrip.{written, Takes, RoundTrip, TooLarge}
+use Rattle.grammar.proofs.Rules.{forms}
 use Rattle.grammar.proofs.ReadBack.{clear, spaced, apart, filled-matched, apart-matched}
-
--- all forms, for a proof that computes them
-unfoldable pub forms : Type 0
-unfolding rules openForms termsForms joinForms changeForms leaveForms loadForms arriveForms tickForms
-forms = Unit {0}
 
 -- whether a rule differs from each of some others, and each of some rules from those before it
 unfoldable pub apartFrom : Rule → List Rule → Bool

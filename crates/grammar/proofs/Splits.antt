@@ -37,7 +37,8 @@ byte-line b line other one rest = rw (other, one rest)
 
 unbroken-line : (bs line : List ℕ) → Unbroken bs → OneLine line → OneLine (bs ++ line)
 unbroken-line [] line whole one = one
-unbroken-line (b ∷ bs) line whole one = byte-line b (bs ++ line) (ne-eqb b lineFeed (whole .0)) (unbroken-line bs line (whole .1) one)
+unbroken-line (b ∷ bs) line whole one =
+    byte-line b (bs ++ line) (ne-eqb b lineFeed (whole .0)) (unbroken-line bs line (whole .1) one)
 
 -- a line that is closed, and one that is not
 pub closed-line : (bs : List ℕ) → Unbroken bs → OneLine (bs ++ lineFeed ∷ [])
@@ -90,7 +91,8 @@ filled-line (b ∷ bs) ns e = go (eqb b lineFeed) refl (isGap b) refl e ns (λ m
         feed [] q = rw (eqb-true b lineFeed f, filled-byte lineFeed [] ns refl) feed-line
         feed (c ∷ cs) q = true-false q refl
     go false f true h e [] rest = byte-line b (filled bs []) f (rest [] e)
-    go false f true h e (n ∷ ns) rest = rw (filled-gap b bs n ns h) (unbroken-line (decimal n) (filled bs ns) (decimal-unbroken n) (rest ns e))
+    go false f true h e (n ∷ ns) rest =
+        rw (filled-gap b bs n ns h) (unbroken-line (decimal n) (filled bs ns) (decimal-unbroken n) (rest ns e))
     go false f false h e ns rest = rw (filled-byte b bs ns h) (byte-line b (filled bs ns) f (rest ns e))
 
 pub printed-line : (answer : Answer) → OneLine (printed answer)

@@ -1,5 +1,5 @@
--- The round trip (paper 01, "Script and printout"): what a form of the grammar writes is read as that form, for as many numbers as
--- it takes, none above the limit of its gap. "right shape, but a number above 4294967295" is read as 17.
+-- The round trip (paper 01, "Script and printout"): what a form of the grammar writes is read as that form, for as many numbers
+-- as it takes, none above the limit of its gap. "right shape, but a number above 4294967295" is read as 17.
 use Prim.Native.Nat.{ℕ}
 use mathlib.Core.Path.{_≡_}
 use mathlib.Core.Bool.{true, false}

@@ -36,7 +36,8 @@ verdict-fits t ns e = go (numbersFit (limits t) ns) e
     go true q = refl
     go false q = absurd (omega arith)
 
-module _ {template line : List ℕ} {refused : ℕ} {numbers : List ℕ} (read : Reads template line refused numbers) (e : refused ≡ 0) where
+module _ {template line : List ℕ} {refused : ℕ} {numbers : List ℕ} (read : Reads template line refused numbers)
+    (e : refused ≡ 0) where
   read-fits : numbersFit (limits template) (take (gaps template) numbers) ≡ true
   read-fits = verdict-fits template _ (sym e ∙ read .answer ∙ ap (verdict template) (read .places e))
 
@@ -47,7 +48,8 @@ module _ {template line : List ℕ} {refused : ℕ} {numbers : List ℕ} (read :
   pub read-within : (i : ℕ) → i < gaps template → nth numbers i ≤ nth (limits template) i
   read-within i h = fits-within (limits template) numbers read-fits i h
 
-module _ (r : Rule) (rs : List Rule) (line : List ℕ) {refused : ℕ} {numbers : List ℕ} (read : Reads (r .template) line refused numbers) where
+module _ (r : Rule) (rs : List Rule) (line : List ℕ) {refused : ℕ} {numbers : List ℕ}
+    (read : Reads (r .template) line refused numbers) where
   pub rule-fits : refused ≡ 0 → parsedBy (r ∷ rs) line ≡ Form (r .call (take (gaps (r .template)) numbers))
   unfolding parsedBy sized
   rule-fits e = rw (read .places e, read-fits read e)
@@ -93,7 +95,8 @@ unfolding parsedBy
 no-rule line = refl
 
 -- a form that does not fit leaves the line to those behind it, and one without numbers has none that is too large
-pub rule-missed : (r : Rule) (rs : List Rule) (line : List ℕ) → matched (r .template) line ≡ none → parsedBy (r ∷ rs) line ≡ parsedBy rs line
+pub rule-missed : (r : Rule) (rs : List Rule) (line : List ℕ) → matched (r .template) line ≡ none
+    → parsedBy (r ∷ rs) line ≡ parsedBy rs line
 unfolding parsedBy
 rule-missed r rs line e = rw e
 
@@ -103,7 +106,8 @@ unfolding parsedBy sized numbersFit
 rule-bare r rs line e bare = rw (e, bare)
 
 -- what stands behind the forms that are tried does not matter where it gives 16
-pub behind-none : (rs after : List Rule) (line : List ℕ) → parsedBy after line ≡ Refused 16 → parsedBy (rs ++ after) line ≡ parsedBy rs line
+pub behind-none : (rs after : List Rule) (line : List ℕ) → parsedBy after line ≡ Refused 16
+    → parsedBy (rs ++ after) line ≡ parsedBy rs line
 unfolding parsedBy
 behind-none [] after line e = e
 behind-none (r ∷ rs) after line e = ap (orElse r (matched (r .template) line)) (behind-none rs after line e)

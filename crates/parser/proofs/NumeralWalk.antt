@@ -21,7 +21,8 @@ module _ {amount : Amount} {n : ℕ} (s : Stands amount n) (digit : ℕ) {value 
   pub stands-more : value ≡ amount .value * 10 + digit → Stands (record { past = amount .past; value = value }) (n * 10 + digit)
   stands-more e = record { exact = λ q. e ∙ rw (s .exact q); beyond = λ q. omega (arith, s .beyond q) }
 
-  pub stands-past : 18446744073709551615 < amount .value * 10 + digit → Stands (record { past = true; value = value }) (n * 10 + digit)
+  pub stands-past : 18446744073709551615 < amount .value * 10 + digit
+      → Stands (record { past = true; value = value }) (n * 10 + digit)
   stands-past over = record { exact = λ q. absurd (true≢false q); beyond = λ q. go (amount .past) refl }
     where
       go : (past : Bool) → amount .past ≡ past → 18446744073709551615 < n * 10 + digit

@@ -18,28 +18,19 @@ use Rattle.grammar.proofs.Matching.{gap-fits, gap-misfits, byte-fits, byte-misf
 use Rattle.parser.specs.declared.Gap.{Gap}
 use Rattle.parser.specs.declared.Numeral.{Numeral}
 use Rattle.parser.specs.Numbers.{byteOf, Spells}
-use Rattle.parser.specs.Readings.{gapOf, verdict, numbersRoom, Room, Reads}
+use Rattle.parser.specs.Readings.{gapOf, verdictFrom, verdict, numbersRoom, Room, Reads}
 
 -- ---- a number more
 
--- the verdict behind some numbers, of which one was too large or none
-unfoldable pub verdictFrom : Bool → List ℕ → Option (List ℕ) → ℕ
-verdictFrom large ls none = 16
-verdictFrom large ls (some ns) = cond large 17 (cond (numbersFit ls ns) 0 17)
-
-verdict-start : (t : List ℕ) (found : Option (List ℕ)) → verdict t found ≡ verdictFrom false (limits t) found
-unfolding verdictFrom
-verdict-start t none = refl
-verdict-start t (some ns) = refl
-
 verdict-number : (large : Bool) (l : ℕ) (ls : List ℕ) (n : ℕ) (found : Option (List ℕ))
     → verdictFrom large (l ∷ ls) (withNumber n found) ≡ verdictFrom (large || ltb l n) ls found
-unfolding verdictFrom numbersFit
+unfolding numbersFit
 verdict-number large l ls n none = refl
 verdict-number true l ls n (some ns) = refl
 verdict-number false l ls n (some ns) = go (ltb l n) refl
   where
-    go : (t : Bool) → ltb l n ≡ t → _≡_ {A = ℕ} (cond (leb n l && numbersFit ls ns) 0 17) (cond t 17 (cond (numbersFit ls ns) 0 17))
+    go : (t : Bool) → ltb l n ≡ t
+        → _≡_ {A = ℕ} (cond (leb n l && numbersFit ls ns) 0 17) (cond t 17 (cond (numbersFit ls ns) 0 17))
     go true e = rw (lt-leb n l (ltb-true l n e))
     go false e = rw (le-leb n l (ltb-false l n e))
 
@@ -105,7 +96,7 @@ walked-none line from template numbers room = record {
   within = omega arith;
   counted = omega arith;
   room = room;
-  answer = verdict-start template (matched template (drop from line));
+  answer = refl;
   found = λ e. before-none (matched template (drop from line));
 }
 
@@ -113,44 +104,51 @@ walked-none line from template numbers room = record {
 misfit : {line : List ℕ} {from : ℕ} {template : List ℕ} {large : Bool} {numbers : List ℕ} {count at i : ℕ}
     → Walked line from template large numbers count at i → matched (drop i template) (drop at line) ≡ none
     → Reads template (drop from line) 16 numbers
-unfolding verdictFrom
 misfit w e = record { answer = sym (w .answer ∙ rw e); places = λ z. absurd (omega arith); sized = w .room .sized }
 
-module _ {line : List ℕ} {from : ℕ} {template : List ℕ} {large : Bool} {numbers : List ℕ} {count at i byte : ℕ}
-    (w : Walked line from template large numbers count at i) (h : i < length template) (b : byte ≡ getD template i 0) {mark : Gap}
-    (m : mark ≡ gapOf byte) where
+-- a turn: a byte of the template, and whether it is a gap
+pub record Turn (line : List ℕ) (from : ℕ) (template : List ℕ) (large : Bool) (numbers : List ℕ) (count at i byte : ℕ)
+    (mark : Gap) : Type 0 where
+  pub walked : Walked line from template large numbers count at i
+  pub more : i < length template
+  pub here : byte ≡ getD template i 0
+  pub small : byte < 256
+  pub told : mark ≡ gapOf byte
+
+module _ {line : List ℕ} {from : ℕ} {template : List ℕ} {large : Bool} {numbers : List ℕ} {count at i byte : ℕ} {mark : Gap}
+    (t : Turn line from template large numbers count at i byte mark) where
   next-byte : drop i template ≡ byte ∷ drop (i + 1) template
-  next-byte = rw (b, add-one) (drop-cons template i 0 h)
+  next-byte = rw (t .here, add-one) (drop-cons template i 0 (t .more))
 
   module _ (taken : mark .is ≡ true) where
     is-gap : isGap byte ≡ true
-    is-gap = sym (ap (λ (g : Gap). g .is) m) ∙ taken
+    is-gap = sym (ap (λ (g : Gap). g .is) (t .told)) ∙ taken
 
     next-limit : limits (drop i template) ≡ mark .limit ∷ limits (drop (i + 1) template)
     unfolding limits
-    next-limit = rw (next-byte, is-gap, ap (λ (g : Gap). g .limit) m)
+    next-limit = rw (next-byte, is-gap, ap (λ (g : Gap). g .limit) (t .told))
 
     -- a gap has its place among the numbers
     pub walked-place : count < numbersRoom
-    walked-place = omega (arith, w .counted, w .room .enough, ap length next-limit)
+    walked-place = omega (arith, t .walked .counted, t .walked .room .enough, ap length next-limit)
 
     module _ {n : Numeral} (s : Spells (mark .limit) (drop at line) line n) where
       pub walked-gap : {large′ : Bool} → n .is ≡ true → large′ ≡ large || n .large
           → Walked line from template large′ (set numbers count (n .value)) (count + 1) (n .next) (i + 1)
       walked-gap e l = record {
-        within = omega arith;
-        counted = omega (arith, w .counted, ap length next-limit);
-        room = record { sized = simp length-set (w .room .sized); enough = w .room .enough };
-        answer = w .answer ∙ rw (next-limit, fits, verdict-number, ← s .size, ← l, ← s .after);
+        within = omega (arith, t .more);
+        counted = omega (arith, t .walked .counted, ap length next-limit);
+        room = record { sized = simp length-set (t .walked .room .sized); enough = t .walked .room .enough };
+        answer = t .walked .answer ∙ rw (next-limit, fits, verdict-number, ← s .size, ← l, ← s .after);
         found = λ small.
             let parts = either-false large (n .large) (sym l ∙ small) in
-            w .found (parts .0)
+            t .walked .found (parts .0)
             ∙ rw (
               fits,
               before-number,
               ← s .amount (parts .1),
               add-one count,
-              take-suc-set numbers count (n .value) (omega (arith, walked-place, w .room .sized)),
+              take-suc-set numbers count (n .value) (omega (arith, walked-place, t .walked .room .sized)),
               ← s .after,
             );
       }
@@ -167,32 +165,32 @@ module _ {line : List ℕ} {from : ℕ} {template : List ℕ} {large : Bool} {nu
 
       pub walked-gap-off : n .is ≡ false → Reads template (drop from line) 16 numbers
       walked-gap-off e =
-          misfit w (rw next-byte (gap-misfits byte (drop (i + 1) template) (drop at line) is-gap (sym (s .right) ∙ e)))
+          misfit (t .walked) (rw next-byte (gap-misfits byte (drop (i + 1) template) (drop at line) is-gap (sym (s .right) ∙ e)))
 
   module _ (left : mark .is ≡ false) {read : ℕ} (r : read ≡ byteOf (drop at line)) where
     fixed : isGap byte ≡ false
-    fixed = sym (ap (λ (g : Gap). g .is) m) ∙ left
+    fixed = sym (ap (λ (g : Gap). g .is) (t .told)) ∙ left
 
-    pub walked-byte : byte < 256 → read ≡ byte → Walked line from template large numbers count (at + 1) (i + 1)
+    pub walked-byte : read ≡ byte → Walked line from template large numbers count (at + 1) (i + 1)
     unfolding limits
-    walked-byte small e =
+    walked-byte e =
         let same : limits (drop i template) ≡ limits (drop (i + 1) template) = rw (next-byte, fixed) in
-        let fits = first-fits byte (drop (i + 1) template) fixed (drop at line) small (sym r ∙ e) in
+        let fits = first-fits byte (drop (i + 1) template) fixed (drop at line) (t .small) (sym r ∙ e) in
         record {
-          within = omega arith;
-          counted = omega (arith, w .counted, ap length same);
-          room = w .room;
-          answer = w .answer ∙ rw (same, next-byte, fits, drop-drop);
-          found = λ small. w .found small ∙ rw (next-byte, fits, drop-drop);
+          within = omega (arith, t .more);
+          counted = omega (arith, t .walked .counted, ap length same);
+          room = t .walked .room;
+          answer = t .walked .answer ∙ rw (same, next-byte, fits, drop-drop);
+          found = λ small. t .walked .found small ∙ rw (next-byte, fits, drop-drop);
         }
 
     -- past the end there is no byte, so a byte that was read leaves room for one more
-    pub walked-there : byte < 256 → read ≡ byte → at < length line
-    walked-there small e = byte-there line at (omega arith)
+    pub walked-there : read ≡ byte → at < length line
+    walked-there e = byte-there line at (omega (arith, t .small))
 
     pub walked-byte-off : (read ≡ byte → ⊥) → Reads template (drop from line) 16 numbers
     walked-byte-off e =
-        misfit w (rw next-byte (first-misfits byte (drop (i + 1) template) fixed (drop at line) (λ q. e (r ∙ q))))
+        misfit (t .walked) (rw next-byte (first-misfits byte (drop (i + 1) template) fixed (drop at line) (λ q. e (r ∙ q))))
 
 module _ {line : List ℕ} {from : ℕ} {template : List ℕ} {large : Bool} {numbers : List ℕ} {count at i : ℕ}
     (w : Walked line from template large numbers count at i) (h : length template ≤ i) where
@@ -206,11 +204,11 @@ module _ {line : List ℕ} {from : ℕ} {template : List ℕ} {large : Bool} {nu
     ended = rw (drop-of-length-le template h, drop-of-length-le line k)
 
     pub walked-large : large ≡ true → Reads template (drop from line) 17 numbers
-    unfolding verdictFrom
-    walked-large e = record { answer = sym (w .answer ∙ rw (ended, e)); places = λ z. absurd (omega arith); sized = w .room .sized }
+    walked-large e =
+        record { answer = sym (w .answer ∙ rw (ended, e)); places = λ z. absurd (omega arith); sized = w .room .sized }
 
     pub walked-all : large ≡ false → Reads template (drop from line) 0 numbers
-    unfolding verdictFrom before limits numbersFit
+    unfolding before limits numbersFit
     walked-all e =
         let none-left : limits (drop i template) ≡ [] = rw (drop-of-length-le template h) in
         let all : count ≡ gaps template = omega (arith, w .counted, ap length none-left) in

@@ -117,7 +117,8 @@ module _ (text : List ℕ) (line : List ℕ) (bare : plain text ≡ true) where
   unfolding parsedBy sized
   forms-behind [] e = refl
   forms-behind (r ∷ rs) e =
-      rw (matched-behind text (r .template) line bare e) (go (matched (r .template) (drop (length text) line)) (forms-behind rs e))
+      rw (matched-behind text (r .template) line bare e)
+      (go (matched (r .template) (drop (length text) line)) (forms-behind rs e))
     where
       go : (found : Option (List ℕ)) {x y : Line} → x ≡ y
           → orElse (record { template = text ++ r .template; call = r .call }) found x ≡ orElse r found y

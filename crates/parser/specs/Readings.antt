@@ -1,7 +1,7 @@
 -- What a template finds in a line: the number that refuses it, or the numbers in its gaps.
 use Prim.Native.Nat.{ℕ, _≤_}
 use mathlib.Core.Path.{_≡_}
-use mathlib.Core.Bool.{true, cond}
+use mathlib.Core.Bool.{Bool, true, false, cond}
 use mathlib.Core.List.{List}
 use mathlib.Core.Option.{Option, none, some}
 use lib.Dec.{eqb}
@@ -19,10 +19,14 @@ use Rattle.parser.specs.Texts.{plain}
 abbrev pub gapOf : ℕ → Gap
 gapOf byte = record { is = isGap byte; limit = limitOf byte }
 
--- shape is judged before size: "not a form of the grammar" is 16, "right shape, but a number above .." 17
+-- Shape is judged before size: "not a form of the grammar" is 16, "right shape, but a number above .." 17. What is found in the end,
+-- behind numbers of which one was too large or none, is held to the limits that are left.
+abbrev pub verdictFrom : Bool → List ℕ → Option (List ℕ) → ℕ
+verdictFrom large limits none = 16
+verdictFrom large limits (some numbers) = cond large 17 (cond (numbersFit limits numbers) 0 17)
+
 abbrev pub verdict : List ℕ → Option (List ℕ) → ℕ
-verdict template none = 16
-verdict template (some numbers) = cond (numbersFit (limits template) numbers) 0 17
+verdict template found = verdictFrom false (limits template) found
 
 -- how many numbers a line may have
 abbrev pub numbersRoom : ℕ

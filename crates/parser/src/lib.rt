@@ -13,7 +13,8 @@ ghost use mathlib.Core.Bool.{_||_};
 ghost use Prim.Native.Nat.{_<_};
 ghost use lib.ListN.{drop};
 ghost use mathlib.Core.List.{_++_};
-ghost use Rattle.grammar.specs.Grammar.{openForms, joinForms, changeForms, leaveForms, loadForms, arriveForms, tickForms, parsedBy, parsed};
+ghost use Rattle.grammar.specs.Grammar.{openForms, joinForms, changeForms, leaveForms, loadForms, arriveForms, tickForms};
+ghost use Rattle.grammar.specs.Grammar.{parsedBy, parsed};
 ghost use Rattle.parser.specs.Numbers.{byteOf, digitOf, spelled, Grows, Exceeds, Spells};
 ghost use Rattle.parser.specs.Readings.{gapOf, Room, Readable, Reads, noTerms, TermsRead};
 ghost use Rattle.parser.specs.Texts.{starts};
@@ -63,7 +64,8 @@ struct Amount {
     value: u64,
 }
 
-// A number in a line: whether it is spelled right, whether it is above its limit, its value if it is not, and the place behind it.
+// A number in a line: whether it is spelled right, whether it is above its limit, its value where it is not, and the place
+// behind it.
 struct Numeral {
     is: bool,
     large: bool,

@@ -52,7 +52,8 @@ unfolding arriveForms limits
 returns-2 c =
     let read = c .before .read-form .ensures in
     let e = c .if1 .left in
-    sym (rule-fits _ [] _ read e ∙ rw (read-placed read e 0 (omega arith), read-placed read e 1 (omega arith), read-placed read e 2 (omega arith)))
+    let at = read-placed read e in
+    sym (rule-fits _ [] _ read e ∙ rw (at 0 (omega arith), at 1 (omega arith), at 2 (omega arith)))
 
 pub parse-arrive-spec : {M : Type 1} → statement M
 parse-arrive-spec =

@@ -1,49 +1,43 @@
 -- `parser::parse_join` meets its contract: a line that does not begin as its forms do is neither of them, and else what stands
 -- behind that text decides. Assumes nothing.
-use mathlib.Core.Path.{_≡_, refl, sym, _∙_}
+use mathlib.Core.Path.{refl, sym, _∙_}
+use mathlib.Core.List.{List}
+use borrow.Author.Needs.{needs}
 use borrow.Author.Tests.{eq-eqb, ne-eqb, not-true, not-false}
-use lib.ListN.{length, drop}
 use Rattle.definitions.specs.declared.Call.the-variants.{Join}
 use Rattle.grammar.specs.Bytes.{bytes}
-use Rattle.grammar.specs.Grammar.{termsForms, joinForms, parsedBy}
+use Rattle.grammar.specs.Grammar.{Rule, termsForms, joinForms}
 use Rattle.parser.specs.Texts.{plain}
 use Rattle.parser.proofs.Texts.{forms-other, forms-behind}
-use borrow.Author.Needs.{needs}
 use Rattle.parser.proofs.parse_join.Statement.{statement}
 use Rattle.parser.proofs.parse_join.Tie as tie
 
--- a line that begins as its forms do goes by what stands behind
-begun : (c : tie.Else1) →
-    let line = c .before .before .before .before .before .args .line .now in
-    parsedBy joinForms line ≡ parsedBy (termsForms (λ id kind rate burst. Join id kind rate burst)) (drop (length (bytes "(join ")) line)
-unfolding joinForms plain
-begun c = forms-behind (bytes "(join ") _ refl _ (sym (c .before .starts .ensures) ∙ not-false _ (c .if1 .left))
+terms : List Rule
+terms = termsForms (λ id kind rate burst. Join id kind rate burst)
 
 starts-requires : tie.Need-starts-requires
 starts-requires c κs = search needs
 
 returns : tie.Need-returns
-unfolding joinForms plain
-returns c =
-    sym
-    (forms-other (bytes "(join ") _ refl (termsForms (λ id kind rate burst. Join id kind rate burst))
-    (sym (c .before .starts .ensures) ∙ not-true _ (c .if1 .taken)))
+unfolding joinForms plain terms
+returns c = sym (forms-other (bytes "(join ") _ refl terms (sym (c .before .starts .ensures) ∙ not-true _ (c .if1 .taken)))
 
 read-terms-requires : tie.Need-read-terms-requires
 read-terms-requires c κs = search needs
 
 returns-2 : tie.Need-returns-2
-unfolding joinForms
+unfolding joinForms plain terms
 returns-2 c =
     let read = c .before .before in
-    sym (begun (read .before) ∙ read .read-terms .ensures _ ∙ rw (ne-eqb _ 0 (c .if2 .taken)))
+    let begun = sym (read .before .before .starts .ensures) ∙ not-false _ (read .before .if1 .left) in
+    sym (forms-behind (bytes "(join ") _ refl terms begun ∙ read .read-terms .ensures _ ∙ rw (ne-eqb _ 0 (c .if2 .taken)))
 
 returns-3 : tie.Need-returns-3
-unfolding joinForms
+unfolding joinForms plain terms
 returns-3 c =
     let read = c .before .before in
-    sym (begun (read .before) ∙ read .read-terms .ensures _ ∙ rw (eq-eqb _ 0 (c .if2 .left)))
+    let begun = sym (read .before .before .starts .ensures) ∙ not-false _ (read .before .if1 .left) in
+    sym (forms-behind (bytes "(join ") _ refl terms begun ∙ read .read-terms .ensures _ ∙ rw (eq-eqb _ 0 (c .if2 .left)))
 
 pub parse-join-spec : {M : Type 1} → statement M
-parse-join-spec =
-    tie.close (tie.spec starts-requires returns read-terms-requires returns-2 returns-3)
+parse-join-spec = tie.close (tie.spec starts-requires returns read-terms-requires returns-2 returns-3)

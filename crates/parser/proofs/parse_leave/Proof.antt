@@ -3,7 +3,7 @@
 use mathlib.Core.Path.{refl, sym, _∙_}
 use mathlib.Core.List.{[]}
 use native.Mathlib.Omega.{arith}
-use Rattle.definitions.specs.Sizes.{numberLimit, handleLimit}
+use Rattle.definitions.specs.Sizes.{numberLimit}
 use Rattle.grammar.specs.Templates.{limits}
 use Rattle.grammar.specs.Grammar.{leaveForms}
 use Rattle.parser.specs.Texts.{plain}
@@ -30,7 +30,7 @@ array-read-t14 : tie.Need-array-read-t14
 array-read-t14 c = search needs
 
 cast-t15 : tie.Need-cast-t15
-unfolding limits numberLimit handleLimit
+unfolding limits numberLimit
 cast-t15 c = omega (arith, read-within (c .before .read-form .ensures) (c .if1 .left) 0 (omega arith))
 
 returns-2 : tie.Need-returns-2
@@ -38,7 +38,8 @@ unfolding leaveForms limits
 returns-2 c =
     let read = c .before .read-form .ensures in
     let e = c .if1 .left in
-    sym (rule-fits _ [] _ read e ∙ rw (read-placed read e 0 (omega arith)))
+    let at = read-placed read e in
+    sym (rule-fits _ [] _ read e ∙ rw (at 0 (omega arith)))
 
 pub parse-leave-spec : {M : Type 1} → statement M
 parse-leave-spec =

@@ -39,7 +39,9 @@ unfolding leaveForms plain
 returns-2 c =
     let begun = c .before in
     c .parse-load .ensures
-    ∙ sym (rule-missed _ loadForms _ (not-begun (bytes "(le") (bytes "ave #)") _ refl (sym (begun .before .starts .ensures) ∙ begun .if1 .left)))
+    ∙ sym
+    (rule-missed _ loadForms _
+    (not-begun (bytes "(le") (bytes "ave #)") _ refl (sym (begun .before .starts .ensures) ∙ begun .if1 .left)))
 
 pub parse-leave-or-load-spec : {M : Type 1} → statement M
 parse-leave-or-load-spec =

@@ -3,7 +3,7 @@
 use mathlib.Core.Path.{refl, sym, _∙_}
 use mathlib.Core.List.{[]}
 use native.Mathlib.Omega.{arith}
-use Rattle.definitions.specs.Sizes.{numberLimit, handleLimit}
+use Rattle.definitions.specs.Sizes.{numberLimit}
 use Rattle.grammar.specs.Templates.{limits}
 use Rattle.grammar.specs.Grammar.{loadForms}
 use Rattle.parser.specs.Texts.{plain}
@@ -30,14 +30,14 @@ array-read-t14 : tie.Need-array-read-t14
 array-read-t14 c = search needs
 
 cast-t15 : tie.Need-cast-t15
-unfolding limits numberLimit handleLimit
+unfolding limits numberLimit
 cast-t15 c = omega (arith, read-within (c .before .read-form .ensures) (c .if1 .left) 0 (omega arith))
 
 array-read-t18 : tie.Need-array-read-t18
 array-read-t18 c = search needs
 
 cast-t19 : tie.Need-cast-t19
-unfolding limits numberLimit handleLimit
+unfolding limits numberLimit
 cast-t19 c = omega (arith, read-within (c .before .read-form .ensures) (c .if1 .left) 1 (omega arith))
 
 returns-2 : tie.Need-returns-2
@@ -45,7 +45,8 @@ unfolding loadForms limits
 returns-2 c =
     let read = c .before .read-form .ensures in
     let e = c .if1 .left in
-    sym (rule-fits _ [] _ read e ∙ rw (read-placed read e 0 (omega arith), read-placed read e 1 (omega arith)))
+    let at = read-placed read e in
+    sym (rule-fits _ [] _ read e ∙ rw (at 0 (omega arith), at 1 (omega arith)))
 
 pub parse-load-spec : {M : Type 1} → statement M
 parse-load-spec =

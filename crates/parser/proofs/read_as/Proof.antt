@@ -1,17 +1,15 @@
 -- `parser::read_as` meets its contract. The loop's invariant: what was found so far, with what the rest of the template finds in
 -- the rest of the line, is what the template finds in the line. The measure is what is left of the template. Assumes nothing.
 use Prim.Native.Nat.{_-_, _<_}
-use mathlib.Core.Path.{_≡_, sym, ap, _∙_}
-use mathlib.Core.Bool.{true, false}
 use mathlib.Core.Logic.{⊎-elim}
 use native.Mathlib.Omega.{arith}
 use borrow.Author.Needs.{needs}
 use borrow.Author.Tests.{not-true, not-false}
 use lib.ListN.{length}
-use Rattle.grammar.specs.Templates.{isGap}
-use Rattle.parser.specs.declared.Gap.{Gap}
+use Rattle.parser.specs.Readings.{numbersRoom}
 use Rattle.parser.proofs.TemplateWalk.{
   Walked,
+  Turn,
   walked-none,
   walked-place,
   walked-gap,
@@ -27,16 +25,27 @@ use Rattle.parser.proofs.read_as.Statement.{statement}
 use Rattle.parser.proofs.read_as.Tie as tie
 
 abbrev Inv-loop : tie.InvT-loop
-Inv-loop line from template numbers₀ large₀ count₀ at₀ i₀ numbers large count at i = Walked line from template large numbers count at i
+Inv-loop line from template numbers₀ large₀ count₀ at₀ i₀ numbers large count at i =
+    Walked line from template large numbers count at i
 
 abbrev μ-loop : tie.MeasureT-loop
 μ-loop line from template numbers₀ large₀ count₀ at₀ i₀ numbers large count at i = length template - i
 
--- a byte of the template is one
-byte-small : (t : tie.After-gap-of Inv-loop μ-loop) → t .before .wide .result < 256
-byte-small t =
-    let turn = t .before .before in
-    omega (arith, t .before .wide .ensures, turn .shared-slice-known3 .given (turn .before .before .loop .i))
+turn : (t : tie.After-gap-of Inv-loop μ-loop) →
+    let loop = t .before .before .before .before .loop in
+    let args = t .before .before .before .before .before .before .before .args in
+    Turn (args .line .now) (args .from) (args .template .now) (loop .large) (loop .numbers) (loop .count) (loop .at) (loop .i)
+    (t .before .wide .result) (t .gap-of .result)
+turn t =
+    let byte = t .before in
+    let loop = byte .before .before .before .loop in
+    record {
+      walked = loop .inv;
+      more = byte .before .before .loop-test .taken;
+      here = byte .wide .ensures;
+      small = omega (arith, byte .wide .ensures, byte .before .shared-slice-known3 .given (loop .i));
+      told = t .gap-of .ensures;
+    }
 
 loop-holds : tie.Need-loop-holds Inv-loop μ-loop
 loop-holds c = walked-none _ _ _ _ (c .before .before .pre)
@@ -57,27 +66,22 @@ returns : tie.Need-returns Inv-loop μ-loop
 returns c =
     let spelled = c .before .before in
     let gap = spelled .before in
-    let t = gap .before in
-    walked-gap-off (t .before .before .before .before .loop .inv) (t .before .before .before .loop-test .taken) (t .before .wide .ensures) (t .gap-of .ensures) (gap .if1 .taken) (spelled .read-numeral .ensures)
-    (not-true _ (c .if2 .taken))
+    walked-gap-off (turn (gap .before)) (gap .if1 .taken) (spelled .read-numeral .ensures) (not-true _ (c .if2 .taken))
+
+-- a gap's number has its place
+place : (c : tie.Else2 Inv-loop μ-loop) → c .before .before .before .before .before .before .before .before .loop .count < numbersRoom
+place c =
+    let gap = c .before .before .before in
+    walked-place (turn (gap .before)) (gap .if1 .taken)
 
 mul-numbers : tie.Need-mul-numbers Inv-loop μ-loop
-mul-numbers c =
-    let gap = c .before .before .before in
-    let t = gap .before in
-    omega (arith, walked-place (t .before .before .before .before .loop .inv) (t .before .before .before .loop-test .taken) (t .before .wide .ensures) (t .gap-of .ensures) (gap .if1 .taken))
+mul-numbers c = omega (arith, place c)
 
 element-write-numbers : tie.Need-element-write-numbers Inv-loop μ-loop
-element-write-numbers c =
-    let gap = c .before .before .before in
-    let t = gap .before in
-    omega (arith, walked-place (t .before .before .before .before .loop .inv) (t .before .before .before .loop-test .taken) (t .before .wide .ensures) (t .gap-of .ensures) (gap .if1 .taken))
+element-write-numbers c = place c
 
 add-count : tie.Need-add-count Inv-loop μ-loop
-add-count c =
-    let gap = c .before .before .before in
-    let t = gap .before in
-    omega (arith, walked-place (t .before .before .before .before .loop .inv) (t .before .before .before .loop-test .taken) (t .before .wide .ensures) (t .gap-of .ensures) (gap .if1 .taken))
+add-count c = omega (arith, place c)
 
 either-requires : tie.Need-either-requires Inv-loop μ-loop
 either-requires c κs = search needs
@@ -88,18 +92,12 @@ byte-at-requires c κs = search needs
 returns-2 : tie.Need-returns-2 Inv-loop μ-loop
 returns-2 c =
     let fixed = c .before .before in
-    let t = fixed .before in
-    walked-byte-off (t .before .before .before .before .loop .inv) (t .before .before .before .loop-test .taken) (t .before .wide .ensures) (t .gap-of .ensures) (fixed .if1 .left) (c .before .byte-at .ensures) (c .if3 .taken)
+    walked-byte-off (turn (fixed .before)) (fixed .if1 .left) (c .before .byte-at .ensures) (c .if3 .taken)
 
 add-at : tie.Need-add-at Inv-loop μ-loop
 add-at c =
     let fixed = c .before .before in
-    let t = fixed .before in
-    omega (
-      arith,
-      walked-there (t .before .before .before .before .loop .inv) (t .before .before .before .loop-test .taken) (t .before .wide .ensures) (t .gap-of .ensures) (fixed .if1 .left) (c .before .byte-at .ensures) (byte-small t)
-          (c .if3 .left),
-    )
+    omega (arith, walked-there (turn (fixed .before)) (fixed .if1 .left) (c .before .byte-at .ensures) (c .if3 .left))
 
 add-i : tie.Need-add-i Inv-loop μ-loop
 add-i c = omega arith
@@ -109,15 +107,10 @@ loop-less c = omega arith
 
 loop-again : tie.Need-loop-again Inv-loop μ-loop
 loop-again c =
-    let t = c .before in
-    let inv = t .before .before .before .before .loop .inv in
-    let more = t .before .before .before .loop-test .taken in
+    let t = turn (c .before) in
     ⊎-elim
-    (λ g. rw (g .5, g .6, g .7, g .8)
-    (walked-gap inv more (t .before .wide .ensures) (t .gap-of .ensures) (g .0 .taken) (g .1 .ensures) (not-false _ (g .3 .left))
-    (g .4 .ensures)))
-    (λ f. rw (f .3, f .4, f .5, f .6)
-    (walked-byte inv more (t .before .wide .ensures) (t .gap-of .ensures) (f .0 .left) (f .1 .ensures) (byte-small t) (f .2 .left)))
+    (λ g. rw (g .5, g .6, g .7, g .8) (walked-gap t (g .0 .taken) (g .1 .ensures) (not-false _ (g .3 .left)) (g .4 .ensures)))
+    (λ f. rw (f .3, f .4, f .5, f .6) (walked-byte t (f .0 .left) (f .1 .ensures) (f .2 .left)))
     (c .if1 .came)
 
 returns-3 : tie.Need-returns-3 Inv-loop μ-loop

@@ -75,7 +75,8 @@ unfolding termsForms
 returns-3 c =
     let read = c .before .before in
     λ call. no-private call (read .before .before .before)
-    ∙ only-refused _ _ (read .read-as2 .ensures) (c .before .if3 .taken) ∙ rw (c .no-terms2 .ensures, ne-eqb _ 0 (c .before .if3 .taken))
+    ∙ only-refused _ _ (read .read-as2 .ensures) (c .before .if3 .taken)
+    ∙ rw (c .no-terms2 .ensures, ne-eqb _ 0 (c .before .if3 .taken))
 
 array-read-t25 : tie.Need-array-read-t25
 array-read-t25 c = search needs
