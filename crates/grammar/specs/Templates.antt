@@ -9,10 +9,13 @@ use lib.ListN.{length}
 use Rattle.definitions.specs.Sizes.{numberLimit, handleLimit}
 use Rattle.grammar.specs.Numerals.{leading, behind, isNumeral, valueFrom, decimal}
 
--- The gaps, each with the largest number that may stand there: the byte # for a number of a call, @ for a handle. Any other byte is
--- fixed.
+-- The gaps, each with the largest number that may stand there: the byte # for a number of a call, @ for a handle. Any other byte
+-- is fixed.
 abbrev pub gapLimit : ℕ → Option ℕ
-gapLimit byte = cond (eqb byte 35) (some numberLimit) (cond (eqb byte 64) (some handleLimit) none)
+gapLimit byte =
+    cond (eqb byte 35) (some numberLimit)
+    (cond (eqb byte 64) (some handleLimit)
+    none)
 
 abbrev pub isSome : Option ℕ → Bool
 isSome none = false

@@ -11,7 +11,7 @@ use lib.ListN.{length, drop, length-drop}
 use lib.Seq.{drop-drop}
 use Rattle.grammar.specs.Numerals.{leading, behind, valueFrom}
 use Rattle.parser.specs.declared.Amount.{Amount}
-use Rattle.parser.specs.Numbers.{digitOf, spelled, Stands, Grows, Exceeds, Spells}
+use Rattle.parser.specs.Numbers.{digitOf, spelled, largest64, Stands, Grows, Exceeds, Spells}
 use Rattle.parser.proofs.Digits.{Starts, digits-start, digits-end, numeral-spelled}
 
 -- ---- an amount that stands for a number
@@ -21,17 +21,17 @@ module _ {amount : Amount} {n : ℕ} (s : Stands amount n) (digit : ℕ) {value 
   pub stands-more : value ≡ amount .value * 10 + digit → Stands (record { past = amount .past; value = value }) (n * 10 + digit)
   stands-more e = record { exact = λ q. e ∙ rw (s .exact q); beyond = λ q. omega (arith, s .beyond q) }
 
-  pub stands-past : 18446744073709551615 < amount .value * 10 + digit
+  pub stands-past : largest64 < amount .value * 10 + digit
       → Stands (record { past = true; value = value }) (n * 10 + digit)
   stands-past over = record { exact = λ q. absurd (true≢false q); beyond = λ q. go (amount .past) refl }
     where
-      go : (past : Bool) → amount .past ≡ past → 18446744073709551615 < n * 10 + digit
+      go : (past : Bool) → amount .past ≡ past → largest64 < n * 10 + digit
       go true e = omega (arith, s .beyond e)
       go false e = omega (arith, s .exact e)
 
 -- whether the number is above a limit of 64 bits
 module _ {amount : Amount} {n : ℕ} (s : Stands amount n) (limit : ℕ) where
-  pub exceeds-past : amount .past ≡ true → limit ≤ 18446744073709551615 → true ≡ ltb limit n
+  pub exceeds-past : amount .past ≡ true → limit ≤ largest64 → true ≡ ltb limit n
   exceeds-past e fits = sym (lt-ltb limit n (omega (arith, s .beyond e)))
 
   pub exceeds-exact : amount .past ≡ false → ltb limit (amount .value) ≡ ltb limit n
@@ -99,7 +99,7 @@ module _ {line : List ℕ} {from at : ℕ} {amount : Amount} {digit : ℕ} (p : 
     unfolding valueFrom
     whole = rw (ends .0) at (p .total)
 
-    pub passed-all : {limit first : ℕ} {is large : Bool} → limit ≤ 18446744073709551615 → first ≡ digitOf (drop from line)
+    pub passed-all : {limit first : ℕ} {is large : Bool} → limit ≤ largest64 → first ≡ digitOf (drop from line)
         → is ≡ spelled (at - from) first → Exceeds amount limit large
         → Spells limit (drop from line) line (record { is = is; large = large; value = amount .value; next = at })
     passed-all {limit} {first} {is} {large} fits f e exceeds =

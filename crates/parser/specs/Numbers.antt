@@ -25,10 +25,14 @@ digitOf bytes = cond (isDigit (byteOf bytes)) (byteOf bytes - 48) 10
 unfoldable pub spelled : ℕ → ℕ → Bool
 spelled count first = cond (eqb count 0) false (cond (eqb count 1) true (not (eqb first 0)))
 
+-- the largest number of 64 bits
+abbrev pub largest64 : ℕ
+largest64 = 18446744073709551615
+
 -- an amount stands for a number: it has its value, or the mark that it has passed 64 bits
 pub record Stands (amount : Amount) (n : ℕ) : Type 0 where
   pub exact : amount .past ≡ false → amount .value ≡ n
-  pub beyond : amount .past ≡ true → 18446744073709551615 < n
+  pub beyond : amount .past ≡ true → largest64 < n
 
 -- one digit more, of whatever number the amount stands for
 abbrev pub Grows : Amount → ℕ → Amount → Type 0

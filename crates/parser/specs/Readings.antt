@@ -19,8 +19,8 @@ use Rattle.parser.specs.Texts.{plain}
 abbrev pub gapOf : ℕ → Gap
 gapOf byte = record { is = isGap byte; limit = limitOf byte }
 
--- Shape is judged before size: "not a form of the grammar" is 16, "right shape, but a number above .." 17. What is found in the end,
--- behind numbers of which one was too large or none, is held to the limits that are left.
+-- Shape is judged before size: "not a form of the grammar" is 16, "right shape, but a number above .." 17. What is found in the
+-- end, behind numbers of which one was too large or none, is held to the limits that are left.
 abbrev pub verdictFrom : Bool → List ℕ → Option (List ℕ) → ℕ
 verdictFrom large limits none = 16
 verdictFrom large limits (some numbers) = cond large 17 (cond (numbersFit limits numbers) 0 17)

@@ -11,8 +11,8 @@ use grammar::Line;
 ghost use mathlib.Core.Path.{_≡_};
 ghost use mathlib.Core.Bool.{_||_};
 ghost use Prim.Native.Nat.{_<_};
-ghost use lib.ListN.{drop};
 ghost use mathlib.Core.List.{_++_};
+ghost use lib.ListN.{drop};
 ghost use Rattle.grammar.specs.Grammar.{openForms, joinForms, changeForms, leaveForms, loadForms, arriveForms, tickForms};
 ghost use Rattle.grammar.specs.Grammar.{parsedBy, parsed};
 ghost use Rattle.parser.specs.Numbers.{byteOf, digitOf, spelled, Grows, Exceeds, Spells};
@@ -30,7 +30,7 @@ const TENTH: u64 = 1844674407370955161;
 
 const LAST: u64 = 5;
 
-// How many numbers a line may have.
+// How many numbers a line may have: no template takes more.
 const NUMBERS: usize = 8;
 
 // What a template answers: the number that refuses the line, or that none does.
@@ -156,9 +156,10 @@ fn exceeds(amount: Amount, limit: u64) -> bool
     ensures { λ r. ⌜ Exceeds amount limit r ⌝ }
 {
     if amount.past {
-        return true;
+        true
+    } else {
+        limit < amount.value
     }
-    limit < amount.value
 }
 
 // Whether so many digits are a number: there is one, and the first of several is not 0.

@@ -69,7 +69,8 @@ returns c =
     walked-gap-off (turn (gap .before)) (gap .if1 .taken) (spelled .read-numeral .ensures) (not-true _ (c .if2 .taken))
 
 -- a gap's number has its place
-place : (c : tie.Else2 Inv-loop μ-loop) → c .before .before .before .before .before .before .before .before .loop .count < numbersRoom
+place : (c : tie.Else2 Inv-loop μ-loop)
+    → c .before .before .before .before .before .before .before .before .loop .count < numbersRoom
 place c =
     let gap = c .before .before .before in
     walked-place (turn (gap .before)) (gap .if1 .taken)

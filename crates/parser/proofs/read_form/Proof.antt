@@ -22,7 +22,8 @@ returns-2 : tie.Need-returns-2
 returns-2 c =
     let begun = c .before .before in
     read-behind _ _ _
-    (begun .before .before .before .before .before .pre .bare) (sym (begun .before .starts .ensures) ∙ not-false _ (begun .if1 .left))
+    (begun .before .before .before .before .before .pre .bare)
+    (sym (begun .before .starts .ensures) ∙ not-false _ (begun .if1 .left))
     (c .read-as .ensures)
 
 pub read-form-spec : {M : Type 1} → statement M
