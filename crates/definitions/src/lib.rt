@@ -1,6 +1,11 @@
 // The types of the papers: what is handed to the core and what it answers. Their meaning stands in specs/.
 // Their numbers, too, as the code has them; for the proofs they stand in specs/Sizes.antt, and where two disagree a proof fails.
 
+// The largest number of a call, and the largest handle.
+pub const NUMBER_LIMIT: u64 = 4294967295;
+
+pub const HANDLE_LIMIT: u64 = 4294967295;
+
 // How many ids there are, and how many places each has.
 pub const IDS: u32 = 64;
 

@@ -8,25 +8,26 @@ use borrow.Author.Tests.{lt-ltb}
 use Rattle.definitions.specs.History.{History, scheduler, after, answerAt, dealingAt, traceOf}
 use Rattle.definitions.specs.Sameness.{isTick, names, indifferentBy, indifferentAt, isStruck, kept, departure}
 use Rattle.definitions.proofs.Everything.{everything}
-use Rattle.definitions.specs.Sizes.{numberLimit}
+use Rattle.definitions.specs.Sizes.{numberLimit, handleLimit}
 use Rattle.grammar.specs.Bytes.{lineFeed, textLimit}
 use Rattle.grammar.specs.Numerals.{isDigit, leading, behind, isNumeral, valueFrom, digits, decimal}
-use Rattle.grammar.specs.Templates.{filled, matched}
-use Rattle.grammar.specs.Grammar.{rules, numbersFit, sized, parsedBy, parsed}
+use Rattle.grammar.specs.Templates.{limits, numbersFit, filled, matched}
+use Rattle.grammar.specs.Grammar.{rules, sized, parsedBy, parsed}
+use Rattle.grammar.proofs.Rules.{forms}
 use Rattle.grammar.specs.Printout.{printed, answered, printedFrom, printout}
 use Rattle.grammar.specs.Lines.{lines, heldFrom, heard, toldFrom, told}
 use Rattle.grammar.specs.Sheet.{noted, notedFrom}
 use Rattle.grammar.specs.Examples.{PaperPrintout, BadPrintout, silence, CallAndSilence, tooLong, LimitNeeded}
 
 unfoldable pub printing : Type 0
-unfolding everything textLimit numberLimit isDigit leading behind isNumeral valueFrom digits decimal filled matched rules numbersFit sized
-    parsedBy parsed printed answered printedFrom printout
+unfolding everything textLimit numberLimit handleLimit isDigit leading behind isNumeral valueFrom digits decimal filled matched
+    limits numbersFit forms sized parsedBy parsed printed answered printedFrom printout
 printing = Unit {0}
 
 -- and what reads a text beside its printout
 unfoldable pub comparing : Type 0
-unfolding printing after answerAt dealingAt traceOf isTick names indifferentBy indifferentAt isStruck kept departure lines heldFrom heard
-    toldFrom zip zipWith noted notedFrom
+unfolding printing after answerAt dealingAt traceOf isTick names indifferentBy indifferentAt isStruck kept departure lines
+    heldFrom heard toldFrom zip zipWith noted notedFrom
 comparing = Unit {0}
 
 pub paper-printout : PaperPrintout
@@ -53,7 +54,7 @@ call-and-silence = record {
 
 -- empty lines tell nothing
 feeds-told : (h : History) (n : ℕ) → toldFrom h (lines (replicate n lineFeed)) ≡ h
-unfolding lines toldFrom heldFrom heard parsed rules parsedBy matched
+unfolding lines toldFrom heldFrom heard parsed forms parsedBy matched
 feeds-told h zero = refl
 feeds-told h (suc n) = feeds-told h n
 

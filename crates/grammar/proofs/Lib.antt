@@ -1,9 +1,10 @@
-pub mod Examples
+pub mod Rules
 pub mod Matching
 pub mod Decimals
-pub mod Filling
+pub mod ReadBack
 pub mod RoundTrip
 pub mod Lines
 pub mod Rooms
 pub mod Splits
 pub mod Sheets
+pub mod Examples

@@ -13,7 +13,8 @@ use Rattle.grammar.specs.Printout.{printed, answered, printedFrom}
 
 module _ (core : Core) where
   -- a byte that is no line feed joins the line
-  joins : (line : List ℕ) (b : ℕ) (text : List ℕ) → b ≢ lineFeed → printedFrom core line (b ∷ text) ≡ printedFrom core (line ++ (b ∷ [])) text
+  joins : (line : List ℕ) (b : ℕ) (text : List ℕ) → b ≢ lineFeed
+      → printedFrom core line (b ∷ text) ≡ printedFrom core (line ++ (b ∷ [])) text
   unfolding printedFrom
   joins [] b text other = rw (ne-eqb b lineFeed other, printedFrom)
   joins (x ∷ line) b text other = rw (ne-eqb b lineFeed other, printedFrom)

@@ -7,11 +7,11 @@ use mathlib.Core.List.{List, [], _∷_}
 use mathlib.Core.Option.{none}
 use lib.Dec.{eqb}
 use Rattle.grammar.specs.Numerals.{leading, behind, isNumeral, valueFrom}
-use Rattle.grammar.specs.Templates.{gap, withNumber, matched}
+use Rattle.grammar.specs.Templates.{isGap, withNumber, matched}
 
 matched-step : (b : ℕ) (bs : List ℕ) (x : ℕ) (xs : List ℕ)
     → matched (b ∷ bs) (x ∷ xs)
-    ≡ elim (eqb b gap) [
+    ≡ elim (isGap b) [
       | true ↦ elim (isNumeral (leading (x ∷ xs))) [
         | true ↦ withNumber (valueFrom 0 (leading (x ∷ xs))) (matched bs (behind (x ∷ xs)))
         | false ↦ none
@@ -21,21 +21,21 @@ matched-step : (b : ℕ) (bs : List ℕ) (x : ℕ) (xs : List ℕ)
 unfolding matched
 matched-step b bs x xs = refl
 
-pub gap-fits : (b : ℕ) (bs l : List ℕ) → eqb b gap ≡ true → isNumeral (leading l) ≡ true
+pub gap-fits : (b : ℕ) (bs l : List ℕ) → isGap b ≡ true → isNumeral (leading l) ≡ true
     → matched (b ∷ bs) l ≡ withNumber (valueFrom 0 (leading l)) (matched bs (behind l))
 unfolding leading isNumeral
 gap-fits b bs [] g e = absurd (true≢false (sym e))
 gap-fits b bs (x ∷ xs) g e = rw (matched-step, g, e)
 
-pub gap-misfits : (b : ℕ) (bs l : List ℕ) → eqb b gap ≡ true → isNumeral (leading l) ≡ false → matched (b ∷ bs) l ≡ none
+pub gap-misfits : (b : ℕ) (bs l : List ℕ) → isGap b ≡ true → isNumeral (leading l) ≡ false → matched (b ∷ bs) l ≡ none
 unfolding matched leading isNumeral
 gap-misfits b bs [] g e = refl
 gap-misfits b bs (x ∷ xs) g e = rw (matched-step, g, e)
 
-pub byte-fits : (b : ℕ) (bs : List ℕ) (x : ℕ) (xs : List ℕ) → eqb b gap ≡ false → eqb b x ≡ true
+pub byte-fits : (b : ℕ) (bs : List ℕ) (x : ℕ) (xs : List ℕ) → isGap b ≡ false → eqb b x ≡ true
     → matched (b ∷ bs) (x ∷ xs) ≡ matched bs xs
 byte-fits b bs x xs g e = rw (matched-step, g, e)
 
-pub byte-misfits : (b : ℕ) (bs : List ℕ) (x : ℕ) (xs : List ℕ) → eqb b gap ≡ false → eqb b x ≡ false
+pub byte-misfits : (b : ℕ) (bs : List ℕ) (x : ℕ) (xs : List ℕ) → isGap b ≡ false → eqb b x ≡ false
     → matched (b ∷ bs) (x ∷ xs) ≡ none
 byte-misfits b bs x xs g e = rw (matched-step, g, e)

@@ -14,9 +14,10 @@ use Rattle.grammar.specs.declared.Line.{Line}
 use Rattle.grammar.specs.declared.Line.the-variants.{Form, Refused}
 use Rattle.grammar.specs.Bytes.{bytes}
 use Rattle.grammar.specs.Numerals.{isDigit, leading, behind, isNumeral, valueFrom, digits, decimal}
-use Rattle.grammar.specs.Templates.{gap, withNumber, filled, matched}
-use Rattle.grammar.specs.Grammar.{Rule, rules, numbersFit, sized, orElse, parsedBy, parsed}
+use Rattle.grammar.specs.Templates.{isGap, limits, numbersFit, withNumber, filled, matched}
+use Rattle.grammar.specs.Grammar.{Rule, rules, sized, orElse, parsedBy, parsed}
 use Rattle.grammar.specs.Printout.{printed}
+use Rattle.grammar.proofs.Rules.{forms}
 
 -- digits and what stands behind them are the whole
 leading-behind : (l : List ℕ) → length (leading l) + length (behind l) ≡ length l
@@ -44,7 +45,7 @@ unfolding matched
 matched-length [] [] = omega arith
 matched-length [] (x ∷ xs) = tt
 matched-length (b ∷ bs) [] = tt
-matched-length (b ∷ bs) (x ∷ xs) = go (eqb b gap) (eqb b x) (isNumeral (leading (x ∷ xs))) refl (matched-length bs xs) (matched-length bs (behind (x ∷ xs)))
+matched-length (b ∷ bs) (x ∷ xs) = go (isGap b) (eqb b x) (isNumeral (leading (x ∷ xs))) refl (matched-length bs xs) (matched-length bs (behind (x ∷ xs)))
   where
     line : List ℕ
     line = x ∷ xs
@@ -77,24 +78,24 @@ Holds l n (Refused number) = Unit {0}
 
 abbrev AtLeast : ℕ → List Rule → Type 0
 AtLeast n [] = Unit {0}
-AtLeast n (r ∷ rs) = (n ≤ length (bytes (r .template))) × AtLeast n rs
+AtLeast n (r ∷ rs) = (n ≤ length (r .template)) × AtLeast n rs
 
 parsedBy-length : (n : ℕ) (rs : List Rule) → AtLeast n rs → (l : List ℕ) → Holds l n (parsedBy rs l)
 unfolding parsedBy sized
 parsedBy-length n [] fits l = tt
-parsedBy-length n (r ∷ rs) fits l = go (matched (bytes (r .template)) l) (matched-length (bytes (r .template)) l) (parsedBy-length n rs (fits .1) l)
+parsedBy-length n (r ∷ rs) fits l = go (matched (r .template) l) (matched-length (r .template) l) (parsedBy-length n rs (fits .1) l)
   where
     size : (ns : List ℕ) (b : Bool) → n ≤ length l → Holds l n (cond b (Form (r .call ns)) (Refused 17))
     size ns true h = h
     size ns false h = tt
 
-    go : (o : Option (List ℕ)) → Fits (bytes (r .template)) l o → Holds l n (parsedBy rs l) → Holds l n (orElse (r .call) o (parsedBy rs l))
+    go : (o : Option (List ℕ)) → Fits (r .template) l o → Holds l n (parsedBy rs l) → Holds l n (orElse r o (parsedBy rs l))
     go none f rest = rest
-    go (some ns) f rest = size ns (numbersFit ns) (omega (arith, f, fits .0))
+    go (some ns) f rest = size ns (numbersFit (limits (r .template)) ns) (omega (arith, f, fits .0))
 
 -- the shortest form is `(tick)`
 pub parsed-length : (l : List ℕ) → Holds l 6 (parsed l)
-unfolding parsed rules
+unfolding parsed forms
 parsed-length l = parsedBy-length 6 rules (omega arith) l
 
 -- a line without a form prints thirteen bytes
@@ -105,15 +106,15 @@ Unread (Refused number) = length (printed (Answer.Refused number)) ≡ 13
 parsedBy-unread : (rs : List Rule) (l : List ℕ) → Unread (parsedBy rs l)
 unfolding parsedBy sized printed filled decimal digits
 parsedBy-unread [] l = refl
-parsedBy-unread (r ∷ rs) l = go (matched (bytes (r .template)) l) (parsedBy-unread rs l)
+parsedBy-unread (r ∷ rs) l = go (matched (r .template) l) (parsedBy-unread rs l)
   where
     size : (ns : List ℕ) (b : Bool) → Unread (cond b (Form (r .call ns)) (Refused 17))
     size ns true = tt
     size ns false = refl
 
-    go : (o : Option (List ℕ)) → Unread (parsedBy rs l) → Unread (orElse (r .call) o (parsedBy rs l))
+    go : (o : Option (List ℕ)) → Unread (parsedBy rs l) → Unread (orElse r o (parsedBy rs l))
     go none rest = rest
-    go (some ns) rest = size ns (numbersFit ns)
+    go (some ns) rest = size ns (numbersFit (limits (r .template)) ns)
 
 pub parsed-unread : (l : List ℕ) → Unread (parsed l)
 unfolding parsed

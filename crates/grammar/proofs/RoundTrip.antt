@@ -5,59 +5,59 @@ use mathlib.Core.Path.{_≡_, refl, _∙_}
 use mathlib.Core.Bool.{Bool, true, _&&_, and-eq-true-iff}
 use mathlib.Core.List.{List, [], _∷_, List·Memᴰ, List·Memᴰ·head, List·Memᴰ·tail}
 use Rattle.definitions.specs.Checks.{within}
-use Rattle.grammar.specs.Bytes.{bytes}
 use Rattle.grammar.specs.Numerals.{isDigit}
 use Rattle.grammar.specs.Grammar.{Rule, rules, sized, parsedBy, parsed}
 use Rattle.grammar.specs.RoundTrip.{written, Takes, RoundTrip, TooLarge}
-use Rattle.grammar.proofs.Filling.{clear, spaced, apart, filled-matched, apart-matched}
+use Rattle.grammar.proofs.Rules.{forms}
+use Rattle.grammar.proofs.ReadBack.{clear, spaced, apart, filled-matched, apart-matched}
 
 -- whether a rule differs from each of some others, and each of some rules from those before it
 unfoldable pub apartFrom : Rule → List Rule → Bool
 apartFrom q [] = true
-apartFrom q (r ∷ rs) = apart (bytes (q .template)) (bytes (r .template)) && apartFrom q rs
+apartFrom q (r ∷ rs) = apart (q .template) (r .template) && apartFrom q rs
 
 unfoldable pub separate : List Rule → Bool
 separate [] = true
-separate (q ∷ rs) = spaced (bytes (q .template)) && (apartFrom q rs && separate rs)
+separate (q ∷ rs) = spaced (q .template) && (apartFrom q rs && separate rs)
 
 rules-separate : separate rules ≡ true
-unfolding separate apartFrom apart spaced clear rules isDigit within
+unfolding separate apartFrom apart spaced clear forms isDigit within
 rules-separate = refl
 
 apart-from : (q : Rule) {r : Rule} {rs : List Rule} → List·Memᴰ r rs → apartFrom q rs ≡ true
-    → apart (bytes (q .template)) (bytes (r .template)) ≡ true
+    → apart (q .template) (r .template) ≡ true
 unfolding apartFrom
 apart-from q (List·Memᴰ·head {x} {xs} p) e =
-    rw p (and-eq-true-iff (apart (bytes (q .template)) (bytes (x .template))) (apartFrom q xs) .0 e .0)
+    rw p (and-eq-true-iff (apart (q .template) (x .template)) (apartFrom q xs) .0 e .0)
 apart-from q (List·Memᴰ·tail {x} {xs} m) e =
-    apart-from q m (and-eq-true-iff (apart (bytes (q .template)) (bytes (x .template))) (apartFrom q xs) .0 e .1)
+    apart-from q m (and-eq-true-iff (apart (q .template) (x .template)) (apartFrom q xs) .0 e .1)
 
 -- what the test says of a first rule and of the others
 record Separate (q : Rule) (rs : List Rule) : Type 0 where
-  spacing : spaced (bytes (q .template)) ≡ true
+  spacing : spaced (q .template) ≡ true
   first : apartFrom q rs ≡ true
   others : separate rs ≡ true
 
 separate-parts : (q : Rule) (rs : List Rule) → separate (q ∷ rs) ≡ true → Separate q rs
 unfolding separate
 separate-parts q rs e =
-    let o = and-eq-true-iff (spaced (bytes (q .template))) (apartFrom q rs && separate rs) .0 e in
+    let o = and-eq-true-iff (spaced (q .template)) (apartFrom q rs && separate rs) .0 e in
     let p = and-eq-true-iff (apartFrom q rs) (separate rs) .0 (o .1) in
     record { spacing = o .0; first = p .0; others = p .1 }
 
-separate-spaced : {r : Rule} {rs : List Rule} → List·Memᴰ r rs → separate rs ≡ true → spaced (bytes (r .template)) ≡ true
+separate-spaced : {r : Rule} {rs : List Rule} → List·Memᴰ r rs → separate rs ≡ true → spaced (r .template) ≡ true
 separate-spaced (List·Memᴰ·head {x} {xs} p) e = rw p (separate-parts x xs e .spacing)
 separate-spaced (List·Memᴰ·tail {x} {xs} m) e = separate-spaced m (separate-parts x xs e .others)
 
 -- among separate rules the one that wrote a line reads it: the rules before it do not fit
 pub written-read : {r : Rule} {rs : List Rule} → List·Memᴰ r rs → separate rs ≡ true → (numbers : List ℕ) → Takes r numbers
-    → parsedBy rs (written r numbers) ≡ sized (r .call) numbers
+    → parsedBy rs (written r numbers) ≡ sized r numbers
 unfolding parsedBy written
 written-read {r} (List·Memᴰ·head {x} {xs} p) e numbers k =
-    rw (← p, filled-matched (bytes (r .template)) numbers (separate-spaced (List·Memᴰ·head {x = x} {xs = xs} p) e) k)
+    rw (← p, filled-matched (r .template) numbers (separate-spaced (List·Memᴰ·head {x = x} {xs = xs} p) e) k)
 written-read {r} (List·Memᴰ·tail {x} {xs} m) e numbers k =
     let s = separate-parts x xs e in
-    rw (apart-matched (bytes (x .template)) (bytes (r .template)) numbers (apart-from x m (s .first))
+    rw (apart-matched (x .template) (r .template) numbers (apart-from x m (s .first))
     (separate-spaced m (s .others)) k)
     (written-read m (s .others) numbers k)
 

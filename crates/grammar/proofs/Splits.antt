@@ -14,12 +14,12 @@ use Rattle.definitions.proofs.Laws.Tests.{true-false}
 use Rattle.grammar.specs.declared.Line.the-variants.{Refused as Unread}
 use Rattle.grammar.specs.Bytes.{bytes, lineFeed, Unbroken}
 use Rattle.grammar.specs.Numerals.{decimal}
-use Rattle.grammar.specs.Templates.{gap, filled}
+use Rattle.grammar.specs.Templates.{isGap, filled}
 use Rattle.grammar.specs.Grammar.{parsed}
 use Rattle.grammar.specs.Printout.{printed}
 use Rattle.grammar.specs.Lines.{atFront, lines, heldFrom, held}
 use Rattle.grammar.proofs.Decimals.{decimal-unbroken}
-use Rattle.grammar.proofs.Filling.{filled-byte, filled-gap}
+use Rattle.grammar.proofs.ReadBack.{filled-byte, filled-gap}
 
 -- ---- the first line of some bytes
 
@@ -37,7 +37,8 @@ byte-line b line other one rest = rw (other, one rest)
 
 unbroken-line : (bs line : List ℕ) → Unbroken bs → OneLine line → OneLine (bs ++ line)
 unbroken-line [] line whole one = one
-unbroken-line (b ∷ bs) line whole one = byte-line b (bs ++ line) (ne-eqb b lineFeed (whole .0)) (unbroken-line bs line (whole .1) one)
+unbroken-line (b ∷ bs) line whole one =
+    byte-line b (bs ++ line) (ne-eqb b lineFeed (whole .0)) (unbroken-line bs line (whole .1) one)
 
 -- a line that is closed, and one that is not
 pub closed-line : (bs : List ℕ) → Unbroken bs → OneLine (bs ++ lineFeed ∷ [])
@@ -79,9 +80,9 @@ isLine (b ∷ bs) = cond (eqb b lineFeed) (isNil bs) (isLine bs)
 filled-line : (t ns : List ℕ) → isLine t ≡ true → OneLine (filled t ns)
 unfolding isLine filled
 filled-line [] ns e = true-false e refl
-filled-line (b ∷ bs) ns e = go (eqb b lineFeed) refl (eqb b gap) refl e ns (λ ms q. filled-line bs ms q)
+filled-line (b ∷ bs) ns e = go (eqb b lineFeed) refl (isGap b) refl e ns (λ ms q. filled-line bs ms q)
   where
-    go : (f : Bool) → eqb b lineFeed ≡ f → (g : Bool) → eqb b gap ≡ g → cond f (isNil bs) (isLine bs) ≡ true → (ns : List ℕ)
+    go : (f : Bool) → eqb b lineFeed ≡ f → (g : Bool) → isGap b ≡ g → cond f (isNil bs) (isLine bs) ≡ true → (ns : List ℕ)
         → ((ms : List ℕ) → isLine bs ≡ true → OneLine (filled bs ms))
         → OneLine (filled (b ∷ bs) ns)
     go true f g h e ns rest = feed bs e
@@ -90,14 +91,15 @@ filled-line (b ∷ bs) ns e = go (eqb b lineFeed) refl (eqb b gap) refl e ns (λ
         feed [] q = rw (eqb-true b lineFeed f, filled-byte lineFeed [] ns refl) feed-line
         feed (c ∷ cs) q = true-false q refl
     go false f true h e [] rest = byte-line b (filled bs []) f (rest [] e)
-    go false f true h e (n ∷ ns) rest = rw (filled-gap b bs n ns h) (unbroken-line (decimal n) (filled bs ns) (decimal-unbroken n) (rest ns e))
+    go false f true h e (n ∷ ns) rest =
+        rw (filled-gap b bs n ns h) (unbroken-line (decimal n) (filled bs ns) (decimal-unbroken n) (rest ns e))
     go false f false h e ns rest = rw (filled-byte b bs ns h) (byte-line b (filled bs ns) f (rest ns e))
 
 pub printed-line : (answer : Answer) → OneLine (printed answer)
 unfolding printed isLine filled
 printed-line Accepted = filled-line (bytes "(ok)\n") [] refl
 printed-line (Refused n) = filled-line (bytes "(refused #)\n") (n ∷ []) refl
-printed-line (Slot (Real id p padding)) = filled-line (bytes "(slot (real # # # #))\n") (values (Real id p padding)) refl
+printed-line (Slot (Real id p padding)) = filled-line (bytes "(slot (real # @ # #))\n") (values (Real id p padding)) refl
 printed-line (Slot (Dummy id)) = filled-line (bytes "(slot (dummy #))\n") (values (Dummy id)) refl
 printed-line (Slot (Idle id)) = filled-line (bytes "(slot (idle #))\n") (values (Idle id)) refl
 printed-line (Slot None) = filled-line (bytes "(slot (none))\n") (values None) refl

@@ -23,7 +23,7 @@ use Rattle.grammar.specs.Templates.{filled}
 use Rattle.grammar.specs.Grammar.{parsed}
 
 abbrev pub outcomeTemplate : Outcome → String
-outcomeTemplate (Real id packet padding) = "(slot (real # # # #))\n"
+outcomeTemplate (Real id packet padding) = "(slot (real # @ # #))\n"
 outcomeTemplate (Dummy id) = "(slot (dummy #))\n"
 outcomeTemplate (Idle id) = "(slot (idle #))\n"
 outcomeTemplate None = "(slot (none))\n"

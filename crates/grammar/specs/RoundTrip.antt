@@ -1,22 +1,21 @@
--- The round trip (paper 01, "Script and printout"): what a form of the grammar writes is read as that form, for as many numbers as
--- it takes. "right shape, but a number above 4294967295" is read as 17.
+-- The round trip (paper 01, "Script and printout"): what a form of the grammar writes is read as that form, for as many numbers
+-- as it takes, none above the limit of its gap. "right shape, but a number above 4294967295" is read as 17.
 use Prim.Native.Nat.{ℕ}
 use mathlib.Core.Path.{_≡_}
 use mathlib.Core.Bool.{true, false}
 use mathlib.Core.List.{List, List·Memᴰ}
 use lib.ListN.{length}
 use Rattle.grammar.specs.declared.Line.the-variants.{Form, Refused}
-use Rattle.grammar.specs.Bytes.{bytes}
-use Rattle.grammar.specs.Templates.{gaps, filled}
-use Rattle.grammar.specs.Grammar.{Rule, rules, numbersFit, parsed}
+use Rattle.grammar.specs.Templates.{limits, gaps, numbersFit, filled}
+use Rattle.grammar.specs.Grammar.{Rule, rules, parsed}
 
 -- what a rule writes
 unfoldable pub written : Rule → List ℕ → List ℕ
-written r numbers = filled (bytes (r .template)) numbers
+written r numbers = filled (r .template) numbers
 
 -- as many numbers as a rule takes
 abbrev pub Takes : Rule → List ℕ → Type 0
-Takes r numbers = length numbers ≡ gaps (bytes (r .template))
+Takes r numbers = length numbers ≡ gaps (r .template)
 
 unfoldable pub RoundTrip : Type 0
 RoundTrip =
@@ -24,7 +23,7 @@ RoundTrip =
     → List·Memᴰ r rules
     → (numbers : List ℕ)
     → Takes r numbers
-    → numbersFit numbers ≡ true
+    → numbersFit (limits (r .template)) numbers ≡ true
     → parsed (written r numbers) ≡ Form (r .call numbers)
 
 unfoldable pub TooLarge : Type 0
@@ -33,5 +32,5 @@ TooLarge =
     → List·Memᴰ r rules
     → (numbers : List ℕ)
     → Takes r numbers
-    → numbersFit numbers ≡ false
+    → numbersFit (limits (r .template)) numbers ≡ false
     → parsed (written r numbers) ≡ Refused 17

@@ -1,26 +1,56 @@
 -- "One blank between parts, none elsewhere" (paper 01, "Script and printout").
--- Templates: a text in which each # stands for a number. One template says how a form is written and how it is read.
-use Prim.Native.Nat.{ℕ, suc}
-use mathlib.Core.Bool.{true, false, cond}
+-- Templates: a text with gaps for numbers. One template says how a form is written and how it is read.
+use Prim.Native.Nat.{ℕ}
+use mathlib.Core.Bool.{Bool, true, false, cond, _&&_}
 use mathlib.Core.List.{List, [], _∷_, _++_}
 use mathlib.Core.Option.{Option, none, some}
-use lib.Dec.{eqb}
+use lib.Dec.{eqb, leb}
+use lib.ListN.{length}
+use Rattle.definitions.specs.Sizes.{numberLimit, handleLimit}
 use Rattle.grammar.specs.Numerals.{leading, behind, isNumeral, valueFrom, decimal}
 
--- the byte #
-abbrev pub gap : ℕ
-gap = 35
+-- The gaps, each with the largest number that may stand there: the byte # for a number of a call, @ for a handle. Any other byte
+-- is fixed.
+abbrev pub gapLimit : ℕ → Option ℕ
+gapLimit byte =
+    cond (eqb byte 35) (some numberLimit)
+    (cond (eqb byte 64) (some handleLimit)
+    none)
+
+abbrev pub isSome : Option ℕ → Bool
+isSome none = false
+isSome (some n) = true
+
+abbrev pub orZero : Option ℕ → ℕ
+orZero none = 0
+orZero (some n) = n
+
+abbrev pub isGap : ℕ → Bool
+isGap byte = isSome (gapLimit byte)
+
+abbrev pub limitOf : ℕ → ℕ
+limitOf byte = orZero (gapLimit byte)
+
+-- the limits of a template's gaps, one after the other
+unfoldable pub limits : List ℕ → List ℕ
+limits [] = []
+limits (b ∷ bs) = cond (isGap b) (limitOf b ∷ limits bs) (limits bs)
 
 -- how many numbers a template takes
-unfoldable pub gaps : List ℕ → ℕ
-gaps [] = 0
-gaps (b ∷ bs) = cond (eqb b gap) (suc (gaps bs)) (gaps bs)
+abbrev pub gaps : List ℕ → ℕ
+gaps template = length (limits template)
+
+-- whether no number is above its limit
+unfoldable pub numbersFit : List ℕ → List ℕ → Bool
+numbersFit [] numbers = true
+numbersFit (l ∷ ls) [] = true
+numbersFit (l ∷ ls) (n ∷ ns) = leb n l && numbersFit ls ns
 
 -- a template with numbers in its gaps, one after the other
 unfoldable pub filled : List ℕ → List ℕ → List ℕ
 filled [] numbers = []
 filled (b ∷ bs) [] = b ∷ filled bs []
-filled (b ∷ bs) (n ∷ ns) = elim (eqb b gap) [ true ↦ decimal n ++ filled bs ns | false ↦ b ∷ filled bs (n ∷ ns) ]
+filled (b ∷ bs) (n ∷ ns) = elim (isGap b) [ true ↦ decimal n ++ filled bs ns | false ↦ b ∷ filled bs (n ∷ ns) ]
 
 abbrev pub withNumber : ℕ → Option (List ℕ) → Option (List ℕ)
 withNumber n none = none
@@ -32,7 +62,7 @@ matched [] [] = some []
 matched [] (x ∷ xs) = none
 matched (b ∷ bs) [] = none
 matched (b ∷ bs) (x ∷ xs) =
-    elim (eqb b gap) [
+    elim (isGap b) [
       | true ↦ elim (isNumeral (leading (x ∷ xs))) [
         | true ↦ withNumber (valueFrom 0 (leading (x ∷ xs))) (matched bs (behind (x ∷ xs)))
         | false ↦ none

@@ -1,6 +1,6 @@
 -- The laws of digits that the parser's loop goes by: what one digit more does to a number, and where the digits end.
 -- They hold because `digitOf` is below 10 just where the first byte is a digit.
-use Prim.Native.Nat.{ℕ, _+_, _-_, _*_, _≤_, _<_, min}
+use Prim.Native.Nat.{ℕ, _+_, _-_, _≤_, _<_}
 use mathlib.Core.Path.{_≡_, refl}
 use mathlib.Core.Bool.{Bool, true, false}
 use mathlib.Core.List.{List, [], _∷_}
@@ -9,8 +9,8 @@ use borrow.Author.Tests.{leb-true, eqb-true, eqb-false, eq-eqb, ne-eqb}
 use lib.Dec.{leb, eqb, eqb·suc-zero, eqb·suc-suc}
 use lib.ListN.{length, drop}
 use Rattle.definitions.specs.Checks.{within}
-use Rattle.grammar.specs.Numerals.{isDigit, leading, behind, isNumeral, valueFrom}
-use Rattle.parser.specs.Numbers.{byteOf, digitOf, cap, spelled}
+use Rattle.grammar.specs.Numerals.{isDigit, leading, behind, isNumeral}
+use Rattle.parser.specs.Numbers.{byteOf, digitOf, spelled}
 
 -- a byte is a digit or another
 data Kind (b : ℕ) : Type 0 where
@@ -56,12 +56,6 @@ digits-start (b ∷ bs) h = go (kind b)
         let same : 48 + (b - 48) ≡ b = omega arith in
         record { front = rw (e, same); rest = rw e; there = omega arith }
     go (other e) = absurd (let h′ = rw e at h in omega arith)
-
--- numbers that are equal up to the cap stay so behind any digits
-pub capped-value : (v w : ℕ) (ds : List ℕ) → min cap v ≡ min cap w → min cap (valueFrom v ds) ≡ min cap (valueFrom w ds)
-unfolding valueFrom
-capped-value v w [] e = e
-capped-value v w (d ∷ ds) e = capped-value (v * 10 + (d - 48)) (w * 10 + (d - 48)) ds (omega arith)
 
 zero-digit : (b : ℕ) → 48 ≤ b → eqb (b - 48) 0 ≡ eqb b 48
 zero-digit b low = go (eqb b 48) refl

@@ -1,140 +1,129 @@
 -- What one form of the grammar makes of a line: its call, 17 where a number is too large, and else what the later forms make.
--- A reading has room for the three numbers that a form needs; one beyond the limit is kept as a mark, and no number counts then.
-use Prim.Native.Nat.{ℕ}
-use Prim.Native.String.{String}
+-- Which forms have to be tried shows in the line's second byte. Assumes nothing.
+use Prim.Native.Nat.{ℕ, zero, suc, _≤_, _<_}
 use mathlib.Core.Path.{_≡_, refl, sym, _∙_, ap}
-use mathlib.Core.Bool.{Bool, true, false, cond, not, _&&_, true≢false, and-eq-true-iff}
-use mathlib.Core.List.{List, [], _∷_, _++_, append-nil}
+use mathlib.Core.Bool.{Bool, true, false, cond, not, _&&_, true≢false}
+use mathlib.Core.List.{List, [], _∷_, _++_}
 use mathlib.Core.Option.{Option, none, some}
-use borrow.Author.Tests.{eqb-false, not-true}
+use native.Mathlib.Omega.{arith}
+use borrow.Author.Tests.{leb-true, eqb-false, eq-eqb, ne-eqb, not-true}
 use lib.Dec.{leb, eqb}
-use lib.ListN.{drop}
-use Rattle.grammar.specs.declared.Call.{Call}
+use lib.ListN.{length, take, drop}
+use lib.Seq.{getD-take}
+use Rattle.definitions.proofs.Laws.Tests.{and-both}
 use Rattle.grammar.specs.declared.Line.{Line}
 use Rattle.grammar.specs.declared.Line.the-variants.{Form, Refused}
-use Rattle.definitions.specs.Sizes.{numberLimit}
-use Rattle.grammar.specs.Bytes.{bytes}
-use Rattle.grammar.specs.Templates.{gap, matched}
-use Rattle.grammar.specs.Grammar.{Rule, nth, rule, numbersFit, sized, orElse, parsedBy}
-use Rattle.parser.specs.declared.Reading.{Reading}
+use Rattle.grammar.specs.Templates.{isGap, limits, gaps, numbersFit, matched}
+use Rattle.grammar.specs.Grammar.{Rule, nth, sized, orElse, parsedBy}
 use Rattle.parser.specs.Numbers.{byteOf}
-use Rattle.parser.specs.Readings.{empty, placed, add, collected, readFrom, readAs, judged}
-use Rattle.parser.proofs.Walk.{second-misfits}
+use Rattle.parser.specs.Readings.{verdict, Reads}
+use Rattle.parser.proofs.TemplateWalk.{second-misfits}
 
--- a number more changes neither the shape nor, where it fits, the size
-placed-same : (r : Reading) (n : ℕ) → (placed r n .shaped ≡ r .shaped) × (placed r n .large ≡ r .large)
-unfolding placed
-placed-same r n = go (eqb (r .count) 0) (eqb (r .count) 1) (eqb (r .count) 2) refl refl refl
+-- ---- a form that was read
+
+-- a number that fits is within its limit
+fits-within : (ls ns : List ℕ) → numbersFit ls (take (length ls) ns) ≡ true → (i : ℕ) → i < length ls → nth ns i ≤ nth ls i
+unfolding numbersFit
+fits-within [] ns e i h = absurd (omega arith)
+fits-within (l ∷ ls) [] e i h = omega arith
+fits-within (l ∷ ls) (n ∷ ns) e zero h = leb-true n l (and-both (leb n l) _ e .0)
+fits-within (l ∷ ls) (n ∷ ns) e (suc i) h = fits-within ls ns (and-both (leb n l) _ e .1) i (omega arith)
+
+verdict-fits : (t ns : List ℕ) → 0 ≡ verdict t (some ns) → numbersFit (limits t) ns ≡ true
+verdict-fits t ns e = go (numbersFit (limits t) ns) e
   where
-    go : (s t u : Bool) → eqb (r .count) 0 ≡ s → eqb (r .count) 1 ≡ t → eqb (r .count) 2 ≡ u
-        → (placed r n .shaped ≡ r .shaped) × (placed r n .large ≡ r .large)
-    go true t u p q o = (rw p, rw p)
-    go false true u p q o = (rw (p, q), rw (p, q))
-    go false false true p q o = (rw (p, q, o), rw (p, q, o))
-    go false false false p q o = (rw (p, q, o), rw (p, q, o))
+    go : (b : Bool) → _≡_ {A = ℕ} 0 (cond b 0 17) → b ≡ true
+    go true q = refl
+    go false q = absurd (omega arith)
 
-add-same : (r : Reading) (n : ℕ) → r .shaped ≡ true
-    → (add r n .shaped ≡ true) × (add r n .large ≡ cond (leb n numberLimit) (r .large) true)
-unfolding add
-add-same r n e = go (leb n numberLimit) refl
-  where
-    go : (t : Bool) → leb n numberLimit ≡ t
-        → (add r n .shaped ≡ true) × (add r n .large ≡ cond (leb n numberLimit) (r .large) true)
-    go true p = (rw p (placed-same r n .0 ∙ e), rw p (placed-same r n .1))
-    go false p = (rw p, rw p)
+module _ {template line : List ℕ} {refused : ℕ} {numbers : List ℕ} (read : Reads template line refused numbers)
+    (e : refused ≡ 0) where
+  read-fits : numbersFit (limits template) (take (gaps template) numbers) ≡ true
+  read-fits = verdict-fits template _ (sym e ∙ read .answer ∙ ap (verdict template) (read .places e))
 
-both-cond : (s t x : Bool) → cond t (cond s x true) true ≡ cond (s && t) x true
-both-cond true t x = refl
-both-cond false true x = refl
-both-cond false false x = refl
+  -- the numbers are the first of what was lent
+  pub read-placed : (i : ℕ) → i < gaps template → nth (take (gaps template) numbers) i ≡ nth numbers i
+  read-placed i h = getD-take (gaps template) numbers i 0 h
 
-collected-same : (r : Reading) (ns : List ℕ) → r .shaped ≡ true
-    → (collected r ns .shaped ≡ true) × (collected r ns .large ≡ cond (numbersFit ns) (r .large) true)
-unfolding collected numbersFit
-collected-same r [] e = (e, refl)
-collected-same r (n ∷ ns) e =
-    let s = add-same r n e in
-    let c = collected-same (add r n) ns (s .0) in
-    (c .0, c .1 ∙ rw (s .1) (both-cond (leb n numberLimit) (numbersFit ns) (r .large)))
+  pub read-within : (i : ℕ) → i < gaps template → nth numbers i ≤ nth (limits template) i
+  read-within i h = fits-within (limits template) numbers read-fits i h
 
--- the numbers in their places, whatever their size
-allPlaced : Reading → List ℕ → Reading
-allPlaced r [] = r
-allPlaced r (n ∷ ns) = allPlaced (placed r n) ns
+module _ (r : Rule) (rs : List Rule) (line : List ℕ) {refused : ℕ} {numbers : List ℕ}
+    (read : Reads (r .template) line refused numbers) where
+  pub rule-fits : refused ≡ 0 → parsedBy (r ∷ rs) line ≡ Form (r .call (take (gaps (r .template)) numbers))
+  unfolding parsedBy sized
+  rule-fits e = rw (read .places e, read-fits read e)
 
-collected-placed : (r : Reading) (ns : List ℕ) → numbersFit ns ≡ true → collected r ns ≡ allPlaced r ns
-unfolding collected add allPlaced numbersFit
-collected-placed r [] e = refl
-collected-placed r (n ∷ ns) e =
-    let b = and-eq-true-iff (leb n numberLimit) (numbersFit ns) .0 e in
-    rw (b .0) (collected-placed (placed r n) ns (b .1))
-
--- after three numbers the places are taken
-placed-full : (shaped large : Bool) (a b c : ℕ) (ns : List ℕ)
-    → allPlaced (record { shaped = shaped; large = large; count = 3; a = a; b = b; c = c }) ns
-    ≡ record { shaped = shaped; large = large; count = 3; a = a; b = b; c = c }
-unfolding allPlaced placed
-placed-full shaped large a b c [] = refl
-placed-full shaped large a b c (n ∷ ns) = placed-full shaped large a b c ns
-
-made : (ℕ → ℕ → ℕ → Call) → List ℕ → Call
-made f ns = f (nth ns 0) (nth ns 1) (nth ns 2)
-
-placed-made : (f : ℕ → ℕ → ℕ → Call) (ns : List ℕ)
-    → f (allPlaced empty ns .a) (allPlaced empty ns .b) (allPlaced empty ns .c) ≡ made f ns
-unfolding allPlaced placed made
-placed-made f [] = refl
-placed-made f (x ∷ []) = refl
-placed-made f (x ∷ y ∷ []) = refl
-placed-made f (x ∷ y ∷ z ∷ ns) = rw (placed-full true false x y z ns)
-
-module _ (f : ℕ → ℕ → ℕ → Call) where
-  judged-sized : (ns : List ℕ) {r : Reading} → r ≡ collected empty ns → judged r (f (r .a) (r .b) (r .c)) ≡ sized (made f) ns
-  unfolding judged sized
-  judged-sized ns e = rw (e, collected-same empty ns refl .1) (go (numbersFit ns) refl)
+  -- a form that is refused has a number that is too large, or leaves the line to those behind it
+  rule-refused : (refused ≡ 0 → ⊥) → parsedBy (r ∷ rs) line ≡ cond (eqb refused 17) (Refused 17) (parsedBy rs line)
+  unfolding parsedBy sized
+  rule-refused ne = rw (read .answer) (go (matched (r .template) line) (read .answer))
     where
-      m : Reading
-      m = collected empty ns
+      go : (found : Option (List ℕ)) → refused ≡ verdict (r .template) found
+          → orElse r found (parsedBy rs line) ≡ cond (eqb (verdict (r .template) found) 17) (Refused 17) (parsedBy rs line)
+      go none q = refl
+      go (some ns) q = size (numbersFit (limits (r .template)) ns) q
+        where
+          size : (b : Bool) → refused ≡ cond b 0 17
+              → cond b (Form (r .call ns)) (Refused 17) ≡ cond (eqb (cond b 0 17) 17) (Refused 17) (parsedBy rs line)
+          size true q = absurd (ne q)
+          size false q = refl
 
-      go : (t : Bool) → numbersFit ns ≡ t
-          → cond (cond t false true) (Refused 17) (Form (f (m .a) (m .b) (m .c))) ≡ cond t (Form (made f ns)) (Refused 17)
-      go true p = ap Form (rw (collected-placed empty ns p) (placed-made f ns))
-      go false p = refl
+  pub rule-large : refused ≡ 17 → parsedBy (r ∷ rs) line ≡ Refused 17
+  rule-large e = rule-refused (λ z. omega arith) ∙ rw (eq-eqb refused 17 e)
 
-  pub rule-fits : (template : String) (rs : List Rule) (line : List ℕ) {r : Reading} {answer : Line}
-      → r ≡ readAs (matched (bytes template) line) → r .shaped ≡ true → answer ≡ judged r (f (r .a) (r .b) (r .c))
-      → answer ≡ parsedBy (rule template (λ n. f (nth n 0) (nth n 1) (nth n 2)) ∷ rs) line
-  unfolding parsedBy made readAs readFrom
-  rule-fits template rs line {r} {answer} e shape a = go (matched (bytes template) line) e
-    where
-      go : (found : Option (List ℕ)) → r ≡ readAs found → answer ≡ orElse (made f) found (parsedBy rs line)
-      go none q = absurd (true≢false (sym shape ∙ ap (λ (x : Reading). x .shaped) q))
-      go (some ns) q = a ∙ judged-sized ns q
+  pub rule-off : (refused ≡ 0 → ⊥) → (refused ≡ 17 → ⊥) → parsedBy (r ∷ rs) line ≡ parsedBy rs line
+  rule-off ne small = rule-refused ne ∙ rw (ne-eqb refused 17 small)
 
-pub rule-off : (r : Rule) (rs : List Rule) (line : List ℕ) {reading : Reading}
-    → reading ≡ readAs (matched (bytes (r .template)) line) → reading .shaped ≡ false → parsedBy (r ∷ rs) line ≡ parsedBy rs line
-unfolding parsedBy readAs readFrom
-rule-off r rs line {reading} e shape = go (matched (bytes (r .template)) line) e
+-- a line that can have one form only
+pub only-refused : (r : Rule) (line : List ℕ) {refused : ℕ} {numbers : List ℕ} → Reads (r .template) line refused numbers
+    → (refused ≡ 0 → ⊥) → parsedBy (r ∷ []) line ≡ Refused refused
+unfolding parsedBy sized
+only-refused r line {refused} read ne = go (matched (r .template) line) (read .answer)
   where
-    go : (found : Option (List ℕ)) → reading ≡ readAs found → orElse (r .call) found (parsedBy rs line) ≡ parsedBy rs line
-    go none q = refl
-    go (some ns) q =
-        absurd (true≢false (sym (collected-same empty ns refl .0) ∙ sym (ap (λ (x : Reading). x .shaped) q) ∙ shape))
+    go : (found : Option (List ℕ)) → refused ≡ verdict (r .template) found → orElse r found (Refused 16) ≡ Refused refused
+    go none q = ap Refused (sym q)
+    go (some ns) q = size (numbersFit (limits (r .template)) ns) q
+      where
+        size : (b : Bool) → refused ≡ cond b 0 17 → cond b (Form (r .call ns)) (Refused 17) ≡ Refused refused
+        size true q = absurd (ne q)
+        size false q = ap Refused (sym q)
 
 -- where no form is left, the line is none
 pub no-rule : (line : List ℕ) → parsedBy [] line ≡ Refused 16
 unfolding parsedBy
 no-rule line = refl
 
+-- a form that does not fit leaves the line to those behind it, and one without numbers has none that is too large
+pub rule-missed : (r : Rule) (rs : List Rule) (line : List ℕ) → matched (r .template) line ≡ none
+    → parsedBy (r ∷ rs) line ≡ parsedBy rs line
+unfolding parsedBy
+rule-missed r rs line e = rw e
+
+pub rule-bare : (r : Rule) (rs : List Rule) (line : List ℕ) → matched (r .template) line ≡ some [] → limits (r .template) ≡ []
+    → parsedBy (r ∷ rs) line ≡ Form (r .call [])
+unfolding parsedBy sized numbersFit
+rule-bare r rs line e bare = rw (e, bare)
+
+-- what stands behind the forms that are tried does not matter where it gives 16
+pub behind-none : (rs after : List Rule) (line : List ℕ) → parsedBy after line ≡ Refused 16
+    → parsedBy (rs ++ after) line ≡ parsedBy rs line
+unfolding parsedBy
+behind-none [] after line e = e
+behind-none (r ∷ rs) after line e = ap (orElse r (matched (r .template) line)) (behind-none rs after line e)
+
+-- ---- the forms with a line's second byte
+
 -- whether a template has no number in its first two places, and another second byte
 unfoldable pub unlike : ℕ → List ℕ → Bool
 unlike letter [] = false
 unlike letter (b ∷ []) = false
-unlike letter (b ∷ c ∷ cs) = not (eqb b gap) && (not (eqb c gap) && not (eqb letter c))
+unlike letter (b ∷ c ∷ cs) = not (isGap b) && (not (isGap c) && not (eqb letter c))
 
-unfoldable pub allUnlike : ℕ → List Rule → Bool
-allUnlike letter [] = true
-allUnlike letter (r ∷ rs) = unlike letter (bytes (r .template)) && allUnlike letter rs
+-- the forms that a line with this second byte may have
+unfoldable pub like : ℕ → List Rule → List Rule
+like letter [] = []
+like letter (r ∷ rs) = cond (unlike letter (r .template)) (like letter rs) (r ∷ like letter rs)
 
 module _ (line : List ℕ) {letter : ℕ} (second : letter ≡ byteOf (drop 1 line)) where
   unlike-misfits : (template : List ℕ) → unlike letter template ≡ true → matched template line ≡ none
@@ -142,31 +131,18 @@ module _ (line : List ℕ) {letter : ℕ} (second : letter ≡ byteOf (drop 1 li
   unlike-misfits [] e = absurd (true≢false (sym e))
   unlike-misfits (b ∷ []) e = absurd (true≢false (sym e))
   unlike-misfits (b ∷ c ∷ cs) e =
-      let first = and-eq-true-iff (not (eqb b gap)) _ .0 e in
-      let rest = and-eq-true-iff (not (eqb c gap)) _ .0 (first .1) in
-      second-misfits b c cs line (eqb-false b gap (not-true _ (first .0))) (eqb-false c gap (not-true _ (rest .0)))
+      let first = and-both (not (isGap b)) _ e in
+      let rest = and-both (not (isGap c)) _ (first .1) in
+      second-misfits b c cs line (not-true _ (first .0)) (not-true _ (rest .0))
       (λ q. eqb-false letter c (not-true _ (rest .1)) (second ∙ q))
 
-  -- forms that are all unlike the line are passed over
-  unlike-pass : (rs rest : List Rule) → allUnlike letter rs ≡ true → parsedBy (rs ++ rest) line ≡ parsedBy rest line
-  unfolding parsedBy allUnlike
-  unlike-pass [] rest e = refl
-  unlike-pass (r ∷ rs) rest e =
-      let both = and-eq-true-iff (unlike letter (bytes (r .template))) _ .0 e in
-      rw (unlike-misfits (bytes (r .template)) (both .0)) (unlike-pass rs rest (both .1))
-
-  -- what stands behind the forms that are tried does not matter where it gives 16
-  behind-none : (rs after : List Rule) → parsedBy after line ≡ Refused 16 → parsedBy (rs ++ after) line ≡ parsedBy rs line
-  unfolding parsedBy
-  behind-none [] after e = e
-  behind-none (r ∷ rs) after e =
-      ap (orElse (r .call) (matched (bytes (r .template)) line)) (behind-none rs after e)
-
-  pub all-refused : (rs : List Rule) → allUnlike letter rs ≡ true → parsedBy rs line ≡ Refused 16
-  all-refused rs e = ap (λ (l : List Rule). parsedBy l line) (sym (append-nil rs)) ∙ unlike-pass rs [] e ∙ no-rule line
-
-  -- only the forms that are not unlike the line have to be tried
-  pub among : (before tried after : List Rule) → allUnlike letter before ≡ true → allUnlike letter after ≡ true
-      → parsedBy (before ++ (tried ++ after)) line ≡ parsedBy tried line
-  among before tried after e f =
-      unlike-pass before (tried ++ after) e ∙ behind-none tried after (all-refused after f)
+  -- only these have to be tried
+  pub only-like : (rs : List Rule) → parsedBy rs line ≡ parsedBy (like letter rs) line
+  unfolding parsedBy like
+  only-like [] = refl
+  only-like (r ∷ rs) = go (unlike letter (r .template)) refl (only-like rs)
+    where
+      go : (t : Bool) → unlike letter (r .template) ≡ t → parsedBy rs line ≡ parsedBy (like letter rs) line
+          → parsedBy (r ∷ rs) line ≡ parsedBy (cond t (like letter rs) (r ∷ like letter rs)) line
+      go true e rest = rule-missed r rs line (unlike-misfits (r .template) e) ∙ rest
+      go false e rest = ap (orElse r (matched (r .template) line)) rest

@@ -1,6 +1,6 @@
 pub mod Digits
-pub mod Numerals
-pub mod Walk
-pub mod Forms
+pub mod NumeralWalk
+pub mod TemplateWalk
 pub mod Texts
+pub mod Forms
 pub mod Words

@@ -4,7 +4,7 @@ use mathlib.Core.Path.{_≡_, sym, ap, _∙_}
 use mathlib.Core.Bool.{true, false}
 use mathlib.Core.List.{List}
 use native.Mathlib.Omega.{arith}
-use borrow.Author.Tests.{eq-eqb, ne-eqb, le-leb, lt-leb}
+use borrow.Author.Tests.{eq-eqb, ne-eqb, le-leb, lt-leb, ltb-true, ltb-false}
 use lib.ListN.{length, length-drop}
 use Rattle.definitions.specs.Sizes.{numberLimit}
 use Rattle.grammar.specs.Numerals.{leading, behind, valueFrom}
@@ -13,7 +13,7 @@ use Rattle.parser.specs.declared.Word.the-variants.{Number, Other}
 use Rattle.parser.specs.Numbers.{Spells}
 use Rattle.parser.specs.Words.{wordOf}
 
-module _ {word : List ℕ} {n : Numeral} (s : Spells word word n) where
+module _ {word : List ℕ} {n : Numeral} (s : Spells numberLimit word word n) where
   -- how many bytes stand behind the number
   left : length (behind word) ≡ length word - n .next
   left = ap length (sym (s .after)) ∙ length-drop (n .next) word
@@ -31,13 +31,19 @@ module _ {word : List ℕ} {n : Numeral} (s : Spells word word n) where
       none : length (behind word) ≡ 0
       none = omega (arith, left)
 
-      pub word-large : 4294967295 < n .value → Other ≡ wordOf word
-      unfolding wordOf numberLimit
+      pub word-large : n .large ≡ true → Other ≡ wordOf word
+      unfolding wordOf
       word-large over =
-          rw (← s .right, e, eq-eqb _ _ none, lt-leb (valueFrom 0 (leading word)) 4294967295 (omega (arith, s .amount)))
+          let above = ltb-true numberLimit (valueFrom 0 (leading word)) (sym (s .size) ∙ over) in
+          rw (← s .right, e, eq-eqb _ _ none, lt-leb (valueFrom 0 (leading word)) numberLimit above)
 
-      pub word-number : n .value ≤ 4294967295 → Number (n .value) ≡ wordOf word
-      unfolding wordOf numberLimit
-      word-number fits =
-          let same : n .value ≡ valueFrom 0 (leading word) = omega (arith, s .amount) in
-          rw (← s .right, e, eq-eqb _ _ none, le-leb (valueFrom 0 (leading word)) 4294967295 (omega arith), same)
+      module _ (fits : n .large ≡ false) where
+        low : valueFrom 0 (leading word) ≤ numberLimit
+        low = ltb-false numberLimit (valueFrom 0 (leading word)) (sym (s .size) ∙ fits)
+
+        pub word-fits : n .value ≤ numberLimit
+        word-fits = rw (s .amount fits) low
+
+        pub word-number : Number (n .value) ≡ wordOf word
+        unfolding wordOf
+        word-number = rw (← s .right, e, eq-eqb _ _ none, le-leb (valueFrom 0 (leading word)) numberLimit low, s .amount fits)

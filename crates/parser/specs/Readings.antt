@@ -1,48 +1,60 @@
--- What a template finds in a line: the numbers in its gaps, as the parser collects them one after the other.
-use Prim.Native.Nat.{ℕ}
-use mathlib.Core.Bool.{true, false, cond}
-use mathlib.Core.List.{List, [], _∷_}
+-- What a template finds in a line: the number that refuses it, or the numbers in its gaps.
+use Prim.Native.Nat.{ℕ, _≤_}
+use mathlib.Core.Path.{_≡_}
+use mathlib.Core.Bool.{Bool, true, false, cond}
+use mathlib.Core.List.{List}
 use mathlib.Core.Option.{Option, none, some}
-use lib.Dec.{eqb, leb}
+use lib.Dec.{eqb}
+use lib.ListN.{length, take}
 use Rattle.grammar.specs.declared.Call.{Call}
 use Rattle.grammar.specs.declared.Line.{Line}
 use Rattle.grammar.specs.declared.Line.the-variants.{Form, Refused}
-use Rattle.definitions.specs.Sizes.{numberLimit}
-use Rattle.parser.specs.declared.Reading.{Reading}
+use Rattle.grammar.specs.Templates.{isGap, limitOf, limits, gaps, numbersFit, matched}
+use Rattle.grammar.specs.Grammar.{termsForms, parsedBy}
+use Rattle.parser.specs.declared.Gap.{Gap}
+use Rattle.parser.specs.declared.Terms.{Terms}
+use Rattle.parser.specs.Texts.{plain}
 
--- a line of another shape
-abbrev pub misfit : Reading
-misfit = record { shaped = false; large = false; count = 0; a = 0; b = 0; c = 0 }
+-- whether a byte of a template is a gap, and its limit
+abbrev pub gapOf : ℕ → Gap
+gapOf byte = record { is = isGap byte; limit = limitOf byte }
 
--- the right shape, and no number so far
-abbrev pub empty : Reading
-empty = record { shaped = true; large = false; count = 0; a = 0; b = 0; c = 0 }
+-- Shape is judged before size: "not a form of the grammar" is 16, "right shape, but a number above .." 17. What is found in the
+-- end, behind numbers of which one was too large or none, is held to the limits that are left.
+abbrev pub verdictFrom : Bool → List ℕ → Option (List ℕ) → ℕ
+verdictFrom large limits none = 16
+verdictFrom large limits (some numbers) = cond large 17 (cond (numbersFit limits numbers) 0 17)
 
-abbrev pub tooLarge : Reading
-tooLarge = record { shaped = true; large = true; count = 3; a = 0; b = 0; c = 0 }
+abbrev pub verdict : List ℕ → Option (List ℕ) → ℕ
+verdict template found = verdictFrom false (limits template) found
 
--- one number more, behind the count of those before it
-unfoldable pub placed : Reading → ℕ → Reading
-placed r n =
-    cond (eqb (r .count) 0) (record { shaped = r .shaped; large = r .large; count = 1; a = n; b = r .b; c = r .c })
-    (cond (eqb (r .count) 1) (record { shaped = r .shaped; large = r .large; count = 2; a = r .a; b = n; c = r .c })
-    (cond (eqb (r .count) 2) (record { shaped = r .shaped; large = r .large; count = 3; a = r .a; b = r .b; c = n }) r))
+-- how many numbers a line may have
+abbrev pub numbersRoom : ℕ
+numbersRoom = 8
 
-unfoldable pub add : Reading → ℕ → Reading
-add r n = cond (leb n numberLimit) (placed r n) tooLarge
+-- where nothing refuses the line, its numbers stand one after the other
+pub record Reads (template line : List ℕ) (refused : ℕ) (numbers : List ℕ) : Type 0 where
+  pub answer : refused ≡ verdict template (matched template line)
+  pub places : refused ≡ 0 → matched template line ≡ some (take (gaps template) numbers)
+  pub sized : length numbers ≡ numbersRoom
 
-unfoldable pub collected : Reading → List ℕ → Reading
-collected r [] = r
-collected r (n ∷ ns) = collected (add r n) ns
+-- room for the numbers of a template
+pub record Room (template numbers : List ℕ) : Type 0 where
+  pub sized : length numbers ≡ numbersRoom
+  pub enough : gaps template ≤ numbersRoom
 
--- what is found in the end, after what was found so far
-unfoldable pub readFrom : Reading → Option (List ℕ) → Reading
-readFrom r none = misfit
-readFrom r (some ns) = collected r ns
+-- a template in two parts: a text without gaps, and a rest for whose numbers there is room
+pub record Readable (text rest numbers : List ℕ) : Type 0 where
+  pub bare : plain text ≡ true
+  pub room : Room rest numbers
 
-unfoldable pub readAs : Option (List ℕ) → Reading
-readAs found = readFrom empty found
+-- what stands behind the text of a join and of a change, whichever call it is
+abbrev pub noTerms : ℕ → Terms
+noTerms refused = record { refused = refused; id = 0; kind = 0; rate = 0; burst = 0 }
 
--- "right shape, but a number above 4294967295"
-unfoldable pub judged : Reading → Call → Line
-judged r call = cond (r .large) (Refused 17) (Form call)
+abbrev pub termsLine : (ℕ → ℕ → ℕ → ℕ → Call) → Terms → Line
+termsLine call terms =
+    cond (eqb (terms .refused) 0) (Form (call (terms .id) (terms .kind) (terms .rate) (terms .burst))) (Refused (terms .refused))
+
+abbrev pub TermsRead : List ℕ → Terms → Type 0
+TermsRead rest terms = (call : ℕ → ℕ → ℕ → ℕ → Call) → parsedBy (termsForms call) rest ≡ termsLine call terms

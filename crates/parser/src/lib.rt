@@ -1,18 +1,22 @@
 // Reads one line of the script: any bytes, any number of them. The grammar that it reads by is `parsed` of crate grammar.
-// A form is the text that it begins with, a template for the rest, in which # stands for a number, and the call that the numbers
-// make. One matcher walks the templates.
+// A form is the text that it begins with, a template for the rest, with gaps for numbers, and the call that the numbers make.
+// One matcher walks the templates, and knows nothing of calls.
+use definitions::HANDLE_LIMIT;
 use definitions::INDIFFERENT;
+use definitions::NUMBER_LIMIT;
 use definitions::PRIVATE;
 use definitions::Packet;
 use grammar::Call;
 use grammar::Line;
 ghost use mathlib.Core.Path.{_≡_};
-ghost use Prim.Native.Nat.{min};
-ghost use lib.ListN.{drop, take};
-ghost use Rattle.grammar.specs.Templates.{matched};
-ghost use Rattle.grammar.specs.Grammar.{rules, parsedBy, parsed};
-ghost use Rattle.parser.specs.Numbers.{byteOf, digitOf, cap, spelled, Spells};
-ghost use Rattle.parser.specs.Readings.{misfit, add, readAs, judged};
+ghost use mathlib.Core.Bool.{_||_};
+ghost use Prim.Native.Nat.{_<_};
+ghost use mathlib.Core.List.{_++_};
+ghost use lib.ListN.{drop};
+ghost use Rattle.grammar.specs.Grammar.{openForms, joinForms, changeForms, leaveForms, loadForms, arriveForms, tickForms};
+ghost use Rattle.grammar.specs.Grammar.{parsedBy, parsed};
+ghost use Rattle.parser.specs.Numbers.{byteOf, digitOf, spelled, Grows, Exceeds, Spells};
+ghost use Rattle.parser.specs.Readings.{gapOf, Room, Readable, Reads, noTerms, TermsRead};
 ghost use Rattle.parser.specs.Texts.{starts};
 ghost use Rattle.parser.specs.Words.{wordOf};
 
@@ -21,14 +25,25 @@ const NO_BYTE: u64 = 256;
 
 const NO_DIGIT: u64 = 10;
 
-// What a line is answered with that holds no form.
+// The largest number of 64 bits is TENTH * 10 + LAST.
+const TENTH: u64 = 1844674407370955161;
+
+const LAST: u64 = 5;
+
+// How many numbers a line may have: no template takes more.
+const NUMBERS: usize = 8;
+
+// What a template answers: the number that refuses the line, or that none does.
+const FITS: u32 = 0;
+
 const NO_FORM: u32 = 16;
 
-// The largest number that a form may have; one above it stands for any that is larger.
-const LIMIT: u64 = 4294967295;
+const TOO_LARGE: u32 = 17;
 
-// The byte # of a template.
-const GAP: u64 = 35;
+// The gaps of a template: for a number of a call, and for a handle.
+const NUMBER: u64 = b'#' as u64;
+
+const HANDLE: u64 = b'@' as u64;
 
 // The second byte of each form.
 const OPEN: u64 = b'o' as u64;
@@ -43,9 +58,17 @@ const ARRIVE: u64 = b'a' as u64;
 
 const TICK: u64 = b't' as u64;
 
-// A number in a line: whether it is spelled right, its value, capped at one above the limit, and the place behind it.
+// The number that some digits spell: its value, or the mark that it has passed 64 bits.
+struct Amount {
+    past: bool,
+    value: u64,
+}
+
+// A number in a line: whether it is spelled right, whether it is above its limit, its value where it is not, and the place
+// behind it.
 struct Numeral {
     is: bool,
+    large: bool,
     value: u64,
     next: usize,
 }
@@ -56,14 +79,19 @@ pub enum Word {
     Other,
 }
 
-// What a template finds: whether the line has its shape, whether a number is too large, and the first three numbers.
-struct Reading {
-    shaped: bool,
-    large: bool,
-    count: u32,
-    a: u32,
-    b: u32,
-    c: u32,
+// A byte of a template: whether it is a gap, and the largest number that may stand there.
+struct Gap {
+    is: bool,
+    limit: u64,
+}
+
+// What stands behind `(join ` and `(change `: the number that refuses it, or 0 and the numbers of the call.
+struct Terms {
+    refused: u32,
+    id: u32,
+    kind: u32,
+    rate: u32,
+    burst: u32,
 }
 
 fn wide(byte: u8) -> u64
@@ -94,10 +122,44 @@ fn digit_at(line: &[u8], at: usize) -> u64
     byte - 48
 }
 
-fn capped(value: u64) -> u64
-    ensures { λ r. ⌜ r ≡ min cap value ⌝ }
+// One digit more. What would pass 64 bits is marked, and the mark stays.
+fn more(amount: Amount, digit: u64) -> Amount
+    requires { ⌜ digit < 10 ⌝ }
+    ensures { λ r. ⌜ Grows amount digit r ⌝ }
 {
-    if LIMIT < value { LIMIT + 1 } else { value }
+    if amount.value < TENTH {
+        return Amount {
+            past: amount.past,
+            value: amount.value * 10 + digit,
+        };
+    }
+    if TENTH < amount.value {
+        return Amount {
+            past: true,
+            value: amount.value,
+        };
+    }
+    if LAST < digit {
+        return Amount {
+            past: true,
+            value: amount.value,
+        };
+    }
+    Amount {
+        past: amount.past,
+        value: amount.value * 10 + digit,
+    }
+}
+
+// Whether a number is above a limit.
+fn exceeds(amount: Amount, limit: u64) -> bool
+    ensures { λ r. ⌜ Exceeds amount limit r ⌝ }
+{
+    if amount.past {
+        true
+    } else {
+        limit < amount.value
+    }
 }
 
 // Whether so many digits are a number: there is one, and the first of several is not 0.
@@ -114,22 +176,27 @@ fn is_spelled(count: usize, first: u64) -> bool
 }
 
 // The number that starts at a place, however many digits it has.
-fn read_numeral(line: &[u8], from: usize) -> Numeral
-    ensures { λ r. ⌜ Spells (drop from (now (line .entry))) (now (line .entry)) r ⌝ }
+fn read_numeral(line: &[u8], from: usize, limit: u64) -> Numeral
+    ensures { λ r. ⌜ Spells limit (drop from (now (line .entry))) (now (line .entry)) r ⌝ }
 {
     let first = digit_at(line, from);
     let mut digit = first;
     let mut at = from;
-    let mut value: u64 = 0;
+    let mut amount = Amount {
+        past: false,
+        value: 0,
+    };
     while digit < NO_DIGIT {
-        value = capped(value * 10 + digit);
+        amount = more(amount, digit);
         at += 1;
         digit = digit_at(line, at);
     }
     let is = is_spelled(at - from, first);
+    let large = exceeds(amount, limit);
     Numeral {
         is,
-        value,
+        large,
+        value: amount.value,
         next: at,
     }
 }
@@ -138,14 +205,14 @@ fn read_numeral(line: &[u8], from: usize) -> Numeral
 pub fn number(word: &[u8]) -> Word
     ensures { λ r. ⌜ r ≡ wordOf (now (word .entry)) ⌝ }
 {
-    let numeral = read_numeral(word, 0);
+    let numeral = read_numeral(word, 0, NUMBER_LIMIT);
     if !numeral.is {
         return Word::Other;
     }
     if numeral.next < word.len() {
         return Word::Other;
     }
-    if LIMIT < numeral.value {
+    if numeral.large {
         return Word::Other;
     }
     Word::Number {
@@ -153,82 +220,68 @@ pub fn number(word: &[u8]) -> Word
     }
 }
 
-// What a template finds in a line of another shape.
-fn misfits() -> Reading
-    ensures { λ r. ⌜ r ≡ misfit ⌝ }
+// Which bytes of a template are gaps, and the largest number that may stand in each.
+fn gap_of(byte: u64) -> Gap
+    ensures { λ r. ⌜ r ≡ gapOf byte ⌝ }
 {
-    Reading {
-        shaped: false,
-        large: false,
-        count: 0,
-        a: 0,
-        b: 0,
-        c: 0,
-    }
-}
-
-// One number more. Beside one that is too large no number counts.
-fn with_number(reading: Reading, value: u64) -> Reading
-    ensures { λ r. ⌜ r ≡ add reading value ⌝ }
-{
-    if LIMIT < value {
-        return Reading {
-            shaped: true,
-            large: true,
-            count: 3,
-            a: 0,
-            b: 0,
-            c: 0,
+    if byte == NUMBER {
+        return Gap {
+            is: true,
+            limit: NUMBER_LIMIT,
         };
     }
-    let number = value as u32;
-    let mut next = reading;
-    if reading.count == 0 {
-        next.count = 1;
-        next.a = number;
-        return next;
+    if byte == HANDLE {
+        return Gap {
+            is: true,
+            limit: HANDLE_LIMIT,
+        };
     }
-    if reading.count == 1 {
-        next.count = 2;
-        next.b = number;
-        return next;
+    Gap {
+        is: false,
+        limit: 0,
     }
-    if reading.count == 2 {
-        next.count = 3;
-        next.c = number;
-    }
-    next
 }
 
-// What a template finds in a line from a place on: one walk over the template, with a place in the line.
-fn read_as(line: &[u8], from: usize, template: &[u8]) -> Reading
-    ensures { λ r. ⌜ r ≡ readAs (matched (now (template .entry)) (drop from (now (line .entry)))) ⌝ }
+fn either(a: bool, b: bool) -> bool
+    ensures { λ r. ⌜ r ≡ a || b ⌝ }
 {
-    let mut reading = misfits();
-    reading.shaped = true;
+    if a { true } else { b }
+}
+
+// What a template finds in a line from a place on: one walk over the template, with a place in the line. The numbers are put
+// one after the other into what is lent, which has to have room for as many as the template takes.
+fn read_as(line: &[u8], from: usize, template: &[u8], numbers: &mut [u64; NUMBERS]) -> u32
+    requires { ⌜ Room (now template) (now numbers) ⌝ }
+    ensures { λ r. ⌜ Reads (now (template .entry)) (drop from (now (line .entry))) r (now (numbers .exit)) ⌝ }
+{
+    let mut large = false;
+    let mut count = 0;
     let mut at = from;
     let mut i = 0;
     while i < template.len() {
         let byte = wide(template[i]);
-        if byte == GAP {
-            let number = read_numeral(line, at);
+        let gap = gap_of(byte);
+        if gap.is {
+            let number = read_numeral(line, at, gap.limit);
             if !number.is {
-                return misfits();
+                return NO_FORM;
             }
             at = number.next;
-            reading = with_number(reading, number.value);
+            numbers[count] = number.value;
+            count += 1;
+            large = either(large, number.large);
         } else {
             if byte_at(line, at) != byte {
-                return misfits();
+                return NO_FORM;
             }
             at += 1;
         }
         i += 1;
     }
     if at < line.len() {
-        return misfits();
+        return NO_FORM;
     }
-    reading
+    if large { TOO_LARGE } else { FITS }
 }
 
 // Whether a line begins with a text: what a template asks up to its first gap, at less cost.
@@ -248,160 +301,192 @@ fn starts(line: &[u8], text: &[u8]) -> bool
     true
 }
 
-// The answer to a line of the right shape.
-fn judge(reading: Reading, call: Call) -> Line
-    ensures { λ r. ⌜ r ≡ judged reading call ⌝ }
+// What the template of a form finds in a line: a text, and the rest of the template.
+fn read_form(line: &[u8], text: &[u8], rest: &[u8], numbers: &mut [u64; NUMBERS]) -> u32
+    requires { ⌜ Readable (now text) (now rest) (now numbers) ⌝ }
+    ensures { λ r. ⌜ Reads (now (text .entry) ++ now (rest .entry)) (now (line .entry)) r (now (numbers .exit)) ⌝ }
 {
-    if reading.large {
-        Line::Refused { number: 17 }
-    } else {
-        Line::Form { call }
+    if !starts(line, text) {
+        return NO_FORM;
+    }
+    read_as(line, text.len(), rest, numbers)
+}
+
+// The forms of each call: a group of `rules`.
+fn parse_open(line: &[u8]) -> Line
+    ensures { λ r. ⌜ r ≡ parsedBy openForms (now (line .entry)) ⌝ }
+{
+    let mut numbers = [0; NUMBERS];
+    let refused = read_form(line, b"(open ", b"# # #)", &mut numbers);
+    if refused != FITS {
+        return Line::Refused { number: refused };
+    }
+    Line::Form {
+        call: Call::Open {
+            threshold: numbers[0] as u32,
+            discipline: numbers[1] as u32,
+            seed: numbers[2] as u32,
+        },
     }
 }
 
-// The forms of `rules`, those with the same second byte together. Each is read from behind the text that it begins with: the number
-// handed to `read_as` is that text's length.
-fn parse_open(line: &[u8]) -> Line
-    ensures { λ r. ⌜ r ≡ parsedBy (take 1 rules) (now (line .entry)) ⌝ }
+fn no_terms(refused: u32) -> Terms
+    ensures { λ r. ⌜ r ≡ noTerms refused ⌝ }
 {
-    if !starts(line, b"(open ") {
-        return Line::Refused { number: NO_FORM };
+    Terms {
+        refused,
+        id: 0,
+        kind: 0,
+        rate: 0,
+        burst: 0,
     }
-    let open = read_as(line, 6, b"# # #)");
-    if open.shaped {
-        return judge(
-            open,
-            Call::Open {
-                threshold: open.a,
-                discipline: open.b,
-                seed: open.c,
-            },
-        );
+}
+
+// What stands behind the text of a join and of a change.
+fn read_terms(line: &[u8], from: usize) -> Terms
+    ensures { λ r. ⌜ TermsRead (drop from (now (line .entry))) r ⌝ }
+{
+    let mut numbers = [0; NUMBERS];
+    let private = read_as(line, from, b"# (private #))", &mut numbers);
+    if private == FITS {
+        return Terms {
+            refused: FITS,
+            id: numbers[0] as u32,
+            kind: PRIVATE,
+            rate: numbers[1] as u32,
+            burst: 0,
+        };
     }
-    Line::Refused { number: NO_FORM }
+    if private == TOO_LARGE {
+        return no_terms(TOO_LARGE);
+    }
+    let indifferent = read_as(line, from, b"# (indifferent # #))", &mut numbers);
+    if indifferent != FITS {
+        return no_terms(indifferent);
+    }
+    Terms {
+        refused: FITS,
+        id: numbers[0] as u32,
+        kind: INDIFFERENT,
+        rate: numbers[1] as u32,
+        burst: numbers[2] as u32,
+    }
 }
 
 fn parse_join(line: &[u8]) -> Line
-    ensures { λ r. ⌜ r ≡ parsedBy (take 2 (drop 1 rules)) (now (line .entry)) ⌝ }
+    ensures { λ r. ⌜ r ≡ parsedBy joinForms (now (line .entry)) ⌝ }
 {
-    if !starts(line, b"(join ") {
+    let text = b"(join ";
+    if !starts(line, text) {
         return Line::Refused { number: NO_FORM };
     }
-    let private = read_as(line, 6, b"# (private #))");
-    if private.shaped {
-        return judge(
-            private,
-            Call::Join {
-                id: private.a,
-                kind: PRIVATE,
-                rate: private.b,
-                burst: 0,
-            },
-        );
+    let terms = read_terms(line, text.len());
+    if terms.refused != FITS {
+        return Line::Refused {
+            number: terms.refused,
+        };
     }
-    let indifferent = read_as(line, 6, b"# (indifferent # #))");
-    if indifferent.shaped {
-        return judge(
-            indifferent,
-            Call::Join {
-                id: indifferent.a,
-                kind: INDIFFERENT,
-                rate: indifferent.b,
-                burst: indifferent.c,
-            },
-        );
+    Line::Form {
+        call: Call::Join {
+            id: terms.id,
+            kind: terms.kind,
+            rate: terms.rate,
+            burst: terms.burst,
+        },
     }
-    Line::Refused { number: NO_FORM }
 }
 
 fn parse_change(line: &[u8]) -> Line
-    ensures { λ r. ⌜ r ≡ parsedBy (take 2 (drop 3 rules)) (now (line .entry)) ⌝ }
+    ensures { λ r. ⌜ r ≡ parsedBy changeForms (now (line .entry)) ⌝ }
 {
-    if !starts(line, b"(change ") {
+    let text = b"(change ";
+    if !starts(line, text) {
         return Line::Refused { number: NO_FORM };
     }
-    let private = read_as(line, 8, b"# (private #))");
-    if private.shaped {
-        return judge(
-            private,
-            Call::Change {
-                id: private.a,
-                kind: PRIVATE,
-                rate: private.b,
-                burst: 0,
-            },
-        );
+    let terms = read_terms(line, text.len());
+    if terms.refused != FITS {
+        return Line::Refused {
+            number: terms.refused,
+        };
     }
-    let indifferent = read_as(line, 8, b"# (indifferent # #))");
-    if indifferent.shaped {
-        return judge(
-            indifferent,
-            Call::Change {
-                id: indifferent.a,
-                kind: INDIFFERENT,
-                rate: indifferent.b,
-                burst: indifferent.c,
-            },
-        );
+    Line::Form {
+        call: Call::Change {
+            id: terms.id,
+            kind: terms.kind,
+            rate: terms.rate,
+            burst: terms.burst,
+        },
     }
-    Line::Refused { number: NO_FORM }
+}
+
+fn parse_leave(line: &[u8]) -> Line
+    ensures { λ r. ⌜ r ≡ parsedBy leaveForms (now (line .entry)) ⌝ }
+{
+    let mut numbers = [0; NUMBERS];
+    let refused = read_form(line, b"(leave ", b"#)", &mut numbers);
+    if refused != FITS {
+        return Line::Refused { number: refused };
+    }
+    Line::Form {
+        call: Call::Leave {
+            id: numbers[0] as u32,
+        },
+    }
+}
+
+fn parse_load(line: &[u8]) -> Line
+    ensures { λ r. ⌜ r ≡ parsedBy loadForms (now (line .entry)) ⌝ }
+{
+    let mut numbers = [0; NUMBERS];
+    let refused = read_form(line, b"(load ", b"# #)", &mut numbers);
+    if refused != FITS {
+        return Line::Refused { number: refused };
+    }
+    Line::Form {
+        call: Call::Load {
+            id: numbers[0] as u32,
+            dummies: numbers[1] as u32,
+        },
+    }
 }
 
 fn parse_leave_or_load(line: &[u8]) -> Line
-    ensures { λ r. ⌜ r ≡ parsedBy (take 2 (drop 5 rules)) (now (line .entry)) ⌝ }
+    ensures { λ r. ⌜ r ≡ parsedBy (leaveForms ++ loadForms) (now (line .entry)) ⌝ }
 {
-    if starts(line, b"(leave ") {
-        let leave = read_as(line, 7, b"#)");
-        if leave.shaped {
-            return judge(leave, Call::Leave { id: leave.a });
-        }
+    if starts(line, b"(le") {
+        return parse_leave(line);
     }
-    if !starts(line, b"(load ") {
-        return Line::Refused { number: NO_FORM };
-    }
-    let load = read_as(line, 6, b"# #)");
-    if load.shaped {
-        return judge(
-            load,
-            Call::Load {
-                id: load.a,
-                dummies: load.b,
-            },
-        );
-    }
-    Line::Refused { number: NO_FORM }
+    parse_load(line)
 }
 
 fn parse_arrive(line: &[u8]) -> Line
-    ensures { λ r. ⌜ r ≡ parsedBy (take 1 (drop 7 rules)) (now (line .entry)) ⌝ }
+    ensures { λ r. ⌜ r ≡ parsedBy arriveForms (now (line .entry)) ⌝ }
 {
-    if !starts(line, b"(arrive ") {
-        return Line::Refused { number: NO_FORM };
+    let mut numbers = [0; NUMBERS];
+    let refused = read_form(line, b"(arrive ", b"# (packet @ #))", &mut numbers);
+    if refused != FITS {
+        return Line::Refused { number: refused };
     }
-    let arrive = read_as(line, 8, b"# (packet # #))");
-    if arrive.shaped {
-        let packet = Packet {
-            handle: arrive.b,
-            length: arrive.c,
-        };
-        return judge(
-            arrive,
-            Call::Arrive {
-                id: arrive.a,
-                packet,
-            },
-        );
+    let packet = Packet {
+        handle: numbers[1] as u32,
+        length: numbers[2] as u32,
+    };
+    Line::Form {
+        call: Call::Arrive {
+            id: numbers[0] as u32,
+            packet,
+        },
     }
-    Line::Refused { number: NO_FORM }
 }
 
 fn parse_tick(line: &[u8]) -> Line
-    ensures { λ r. ⌜ r ≡ parsedBy (drop 8 rules) (now (line .entry)) ⌝ }
+    ensures { λ r. ⌜ r ≡ parsedBy tickForms (now (line .entry)) ⌝ }
 {
-    if !starts(line, b"(tick)") {
+    let text = b"(tick)";
+    if !starts(line, text) {
         return Line::Refused { number: NO_FORM };
     }
-    if 6 < line.len() {
+    if text.len() < line.len() {
         return Line::Refused { number: NO_FORM };
     }
     Line::Form { call: Call::Tick }

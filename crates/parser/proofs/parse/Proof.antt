@@ -1,11 +1,10 @@
 -- `parser::parse` meets its contract: of the forms only those with the line's second byte have to be tried. Assumes nothing.
-use mathlib.Core.Path.{refl, sym, _∙_}
-use mathlib.Core.List.{[]}
-use lib.ListN.{drop, take}
+use mathlib.Core.Path.{sym, _∙_}
+use borrow.Author.Needs.{needs}
 use borrow.Author.Tests.{ne-eqb}
 use Rattle.grammar.specs.Grammar.{rules, parsed}
-use Rattle.parser.proofs.Forms.{unlike, allUnlike, among, all-refused}
-use borrow.Author.Needs.{needs}
+use Rattle.grammar.proofs.Rules.{forms}
+use Rattle.parser.proofs.Forms.{no-rule, unlike, like, only-like}
 use Rattle.parser.proofs.parse.Statement.{statement}
 use Rattle.parser.proofs.parse.Tie as tie
 
@@ -31,49 +30,56 @@ parse-tick-requires : tie.Need-parse-tick-requires
 parse-tick-requires c κs = search needs
 
 returns : tie.Need-returns
-unfolding rules parsed allUnlike unlike
+unfolding forms parsed like unlike
 returns c =
-    c .parse-open .ensures ∙ sym (among _ (sym (c .before .match .keys1) ∙ c .before .before .byte-at .ensures) [] (take 1 rules) (drop 1 rules) refl refl)
+    c .parse-open .ensures
+    ∙ sym (only-like _ (sym (c .before .match .keys1) ∙ c .before .before .byte-at .ensures) rules)
 
 returns-2 : tie.Need-returns-2
-unfolding rules parsed allUnlike unlike
+unfolding forms parsed like unlike
 returns-2 c =
-    c .parse-join .ensures ∙ sym (among _ (sym (c .before .match .keys2) ∙ c .before .before .byte-at .ensures) (take 1 rules) (take 2 (drop 1 rules)) (drop 3 rules) refl refl)
+    c .parse-join .ensures
+    ∙ sym (only-like _ (sym (c .before .match .keys2) ∙ c .before .before .byte-at .ensures) rules)
 
 returns-3 : tie.Need-returns-3
-unfolding rules parsed allUnlike unlike
+unfolding forms parsed like unlike
 returns-3 c =
-    c .parse-change .ensures ∙ sym (among _ (sym (c .before .match .keys3) ∙ c .before .before .byte-at .ensures) (take 3 rules) (take 2 (drop 3 rules)) (drop 5 rules) refl refl)
+    c .parse-change .ensures
+    ∙ sym (only-like _ (sym (c .before .match .keys3) ∙ c .before .before .byte-at .ensures) rules)
 
 returns-4 : tie.Need-returns-4
-unfolding rules parsed allUnlike unlike
+unfolding forms parsed like unlike
 returns-4 c =
-    c .parse-leave-or-load .ensures ∙ sym (among _ (sym (c .before .match .keys4) ∙ c .before .before .byte-at .ensures) (take 5 rules) (take 2 (drop 5 rules)) (drop 7 rules) refl refl)
+    c .parse-leave-or-load .ensures
+    ∙ sym (only-like _ (sym (c .before .match .keys4) ∙ c .before .before .byte-at .ensures) rules)
 
 returns-5 : tie.Need-returns-5
-unfolding rules parsed allUnlike unlike
+unfolding forms parsed like unlike
 returns-5 c =
-    c .parse-arrive .ensures ∙ sym (among _ (sym (c .before .match .keys5) ∙ c .before .before .byte-at .ensures) (take 7 rules) (take 1 (drop 7 rules)) (drop 8 rules) refl refl)
+    c .parse-arrive .ensures
+    ∙ sym (only-like _ (sym (c .before .match .keys5) ∙ c .before .before .byte-at .ensures) rules)
 
 returns-6 : tie.Need-returns-6
-unfolding rules parsed allUnlike unlike
+unfolding forms parsed like unlike
 returns-6 c =
-    c .parse-tick .ensures ∙ sym (among _ (sym (c .before .match .keys6) ∙ c .before .before .byte-at .ensures) (take 8 rules) (drop 8 rules) [] refl refl)
+    c .parse-tick .ensures
+    ∙ sym (only-like _ (sym (c .before .match .keys6) ∙ c .before .before .byte-at .ensures) rules)
 
 returns-7 : tie.Need-returns-7
-unfolding rules parsed allUnlike unlike
+unfolding forms parsed like unlike
 returns-7 c =
     let not = c .match .rest in
     let x = c .before .byte-at .result in
-    sym (all-refused _ (c .before .byte-at .ensures) rules
-    (rw (
+    sym
+    (only-like _ (c .before .byte-at .ensures) rules
+    ∙ rw (
       ne-eqb x 111 (not .0 .0 .0 .0 .0 .1),
       ne-eqb x 106 (not .0 .0 .0 .0 .1),
       ne-eqb x 99 (not .0 .0 .0 .1),
       ne-eqb x 108 (not .0 .0 .1),
       ne-eqb x 97 (not .0 .1),
       ne-eqb x 116 (not .1),
-    )))
+    ) (no-rule _))
 
 pub parse-spec : {M : Type 1} → statement M
 parse-spec =

@@ -1,57 +1,72 @@
--- `parser::parse_arrive` meets its contract: a line that does not begin as its form does is none of it, and else the rest of it decides.
+-- `parser::parse_arrive` meets its contract: what refuses the line is its form's, and else the numbers are those of its call.
 -- Assumes nothing.
 use mathlib.Core.Path.{refl, sym, _∙_}
 use mathlib.Core.List.{[]}
-use borrow.Author.Tests.{not-true, not-false}
-use Rattle.grammar.specs.declared.Call.the-variants.{Arrive}
-use Rattle.grammar.specs.Grammar.{rules}
-use Rattle.parser.proofs.Forms.{no-rule, rule-fits, rule-off}
-use Rattle.parser.proofs.Texts.{plain, rule-missed, read-behind, not-begun}
+use native.Mathlib.Omega.{arith}
+use Rattle.definitions.specs.Sizes.{numberLimit, handleLimit}
+use Rattle.grammar.specs.Templates.{limits}
+use Rattle.grammar.specs.Grammar.{arriveForms}
+use Rattle.parser.specs.Texts.{plain}
+use Rattle.parser.proofs.Forms.{read-placed, read-within, rule-fits, only-refused}
 use borrow.Author.Needs.{needs}
 use Rattle.parser.proofs.parse_arrive.Statement.{statement}
 use Rattle.parser.proofs.parse_arrive.Tie as tie
 
-slice-aggregate-starts : tie.Need-slice-aggregate-starts
-slice-aggregate-starts c = search needs
+slice-aggregate-read-form : tie.Need-slice-aggregate-read-form
+slice-aggregate-read-form c = search needs
 
-starts-requires : tie.Need-starts-requires
-starts-requires c κs = search needs
+slice-aggregate-read-form-2 : tie.Need-slice-aggregate-read-form-2
+slice-aggregate-read-form-2 c = search needs
+
+read-form-requires : tie.Need-read-form-requires
+unfolding plain limits
+read-form-requires c κs = record { bare = refl; room = record { sized = refl; enough = omega arith } }
 
 returns : tie.Need-returns
-unfolding rules plain
-returns c =
-    let none = sym (c .before .starts .ensures) ∙ not-true _ (c .if1 .taken) in
-    sym (rule-missed _ [] _ (not-begun "(arrive " "# (packet # #))" _ refl none) ∙ no-rule _)
+unfolding arriveForms
+returns c = sym (only-refused _ _ (c .before .read-form .ensures) (c .if1 .taken))
 
-slice-aggregate-read-as : tie.Need-slice-aggregate-read-as
-slice-aggregate-read-as c = search needs
+array-read-t15 : tie.Need-array-read-t15
+array-read-t15 c = search needs
 
-read-as-requires : tie.Need-read-as-requires
-read-as-requires c κs = search needs
+cast-t16 : tie.Need-cast-t16
+unfolding limits numberLimit handleLimit
+cast-t16 c = omega (arith, read-within (c .before .read-form .ensures) (c .if1 .left) 1 (omega arith))
 
-judge-requires : tie.Need-judge-requires
-judge-requires c κs = search needs
+array-read-t19 : tie.Need-array-read-t19
+array-read-t19 c = search needs
+
+cast-t20 : tie.Need-cast-t20
+unfolding limits numberLimit handleLimit
+cast-t20 c = omega (arith, read-within (c .before .read-form .ensures) (c .if1 .left) 2 (omega arith))
+
+array-read-t15-2 : tie.Need-array-read-t15-2
+array-read-t15-2 c = search needs
+
+cast-t20-2 : tie.Need-cast-t20-2
+unfolding limits numberLimit handleLimit
+cast-t20-2 c = omega (arith, read-within (c .before .read-form .ensures) (c .if1 .left) 0 (omega arith))
 
 returns-2 : tie.Need-returns-2
-unfolding rules plain
+unfolding arriveForms limits
 returns-2 c =
-    let read = c .before .before in
-    let begun = read .before .before in
-    let found = read-behind "(arrive " "# (packet # #))" _ refl (sym (begun .before .starts .ensures) ∙ not-false _ (begun .if1 .left))
-    (read .read-as .ensures) in
-    rule-fits (λ id handle length. Arrive id (record { handle = handle; length = length })) "(arrive # (packet # #))" [] _ found (c .before .if2 .taken) (c .judge .ensures)
-
-returns-3 : tie.Need-returns-3
-unfolding rules plain
-returns-3 c =
-    let read = c .before in
-    let begun = read .before .before in
-    let found = read-behind "(arrive " "# (packet # #))" _ refl (sym (begun .before .starts .ensures) ∙ not-false _ (begun .if1 .left))
-    (read .read-as .ensures) in
-    sym (rule-off _ [] _ found (c .if2 .left) ∙ no-rule _)
+    let read = c .before .read-form .ensures in
+    let e = c .if1 .left in
+    let at = read-placed read e in
+    sym (rule-fits _ [] _ read e ∙ rw (at 0 (omega arith), at 1 (omega arith), at 2 (omega arith)))
 
 pub parse-arrive-spec : {M : Type 1} → statement M
 parse-arrive-spec =
     tie.close
-    (tie.spec slice-aggregate-starts starts-requires returns slice-aggregate-read-as read-as-requires judge-requires returns-2
-    returns-3)
+    (tie.spec
+    slice-aggregate-read-form
+    slice-aggregate-read-form-2
+    read-form-requires
+    returns
+    array-read-t15
+    cast-t16
+    array-read-t19
+    cast-t20
+    array-read-t15-2
+    cast-t20-2
+    returns-2)

@@ -1,95 +1,43 @@
--- `parser::parse_change` meets its contract: a line that does not begin as its forms do is neither of them, and else the first that fits the
--- rest of it decides. Assumes nothing.
-use mathlib.Core.Path.{_≡_, refl, sym, _∙_}
-use mathlib.Core.Bool.{true}
-use mathlib.Core.List.{[]}
-use lib.ListN.{drop, take}
-use borrow.Author.Tests.{not-true, not-false}
-use Rattle.grammar.specs.declared.Call.the-variants.{Change}
-use Rattle.definitions.specs.Sizes.{privateKind, indifferentKind}
-use Rattle.grammar.specs.Bytes.{bytes}
-use Rattle.grammar.specs.Grammar.{rules, parsedBy}
-use Rattle.parser.specs.Texts.{starts}
-use Rattle.parser.proofs.Forms.{no-rule, rule-fits, rule-off}
-use Rattle.parser.proofs.Texts.{plain, rule-missed, read-behind, not-begun}
+-- `parser::parse_change` meets its contract: a line that does not begin as its forms do is neither of them, and else what stands
+-- behind that text decides. Assumes nothing.
+use mathlib.Core.Path.{refl, sym, _∙_}
+use mathlib.Core.List.{List}
 use borrow.Author.Needs.{needs}
+use borrow.Author.Tests.{eq-eqb, ne-eqb, not-true, not-false}
+use Rattle.grammar.specs.declared.Call.the-variants.{Change}
+use Rattle.grammar.specs.Bytes.{bytes}
+use Rattle.grammar.specs.Grammar.{Rule, termsForms, changeForms}
+use Rattle.parser.specs.Texts.{plain}
+use Rattle.parser.proofs.Texts.{forms-other, forms-behind}
 use Rattle.parser.proofs.parse_change.Statement.{statement}
 use Rattle.parser.proofs.parse_change.Tie as tie
 
--- the line begins as the forms do
-begun : (c : tie.Else1) → starts (bytes "(change ") (c .before .before .before .before .args .line .now) ≡ true
-begun c = sym (c .before .starts .ensures) ∙ not-false _ (c .if1 .left)
-
--- the first form does not fit it
-first-off : (c : tie.Else2) →
-    let line = c .before .before .before .before .before .before .before .args .line .now in
-    parsedBy (take 2 (drop 3 rules)) line ≡ parsedBy (take 1 (drop 4 rules)) line
-unfolding rules plain
-first-off c =
-    let read = c .before in
-    rule-off _ (take 1 (drop 4 rules)) _ (read-behind "(change " "# (private #))" _ refl (begun (read .before .before)) (read .read-as .ensures))
-    (c .if2 .left)
-
-slice-aggregate-starts : tie.Need-slice-aggregate-starts
-slice-aggregate-starts c = search needs
+terms : List Rule
+terms = termsForms (λ id kind rate burst. Change id kind rate burst)
 
 starts-requires : tie.Need-starts-requires
 starts-requires c κs = search needs
 
 returns : tie.Need-returns
-unfolding rules plain
-returns c =
-    let none = sym (c .before .starts .ensures) ∙ not-true _ (c .if1 .taken) in
-    sym
-    (rule-missed _ (take 1 (drop 4 rules)) _ (not-begun "(change " "# (private #))" _ refl none)
-    ∙ rule-missed _ [] _ (not-begun "(change " "# (indifferent # #))" _ refl none) ∙ no-rule _)
+unfolding changeForms plain terms
+returns c = sym (forms-other (bytes "(change ") _ refl terms (sym (c .before .starts .ensures) ∙ not-true _ (c .if1 .taken)))
 
-slice-aggregate-read-as : tie.Need-slice-aggregate-read-as
-slice-aggregate-read-as c = search needs
-
-read-as-requires : tie.Need-read-as-requires
-read-as-requires c κs = search needs
-
-judge-requires : tie.Need-judge-requires
-judge-requires c κs = search needs
+read-terms-requires : tie.Need-read-terms-requires
+read-terms-requires c κs = search needs
 
 returns-2 : tie.Need-returns-2
-unfolding rules plain privateKind
+unfolding changeForms plain terms
 returns-2 c =
     let read = c .before .before in
-    let found = read-behind "(change " "# (private #))" _ refl (begun (read .before .before)) (read .read-as .ensures) in
-    rule-fits (λ id rate burst. Change id privateKind rate 0) "(change # (private #))" (take 1 (drop 4 rules)) _ found
-    (c .before .if2 .taken) (c .judge .ensures)
-
-slice-aggregate-read-as-2 : tie.Need-slice-aggregate-read-as-2
-slice-aggregate-read-as-2 c = search needs
-
-read-as-requires-2 : tie.Need-read-as-requires-2
-read-as-requires-2 c κs = search needs
-
-judge-requires-2 : tie.Need-judge-requires-2
-judge-requires-2 c κs = search needs
+    let begun = sym (read .before .before .starts .ensures) ∙ not-false _ (read .before .if1 .left) in
+    sym (forms-behind (bytes "(change ") _ refl terms begun ∙ read .read-terms .ensures _ ∙ rw (ne-eqb _ 0 (c .if2 .taken)))
 
 returns-3 : tie.Need-returns-3
-unfolding rules plain indifferentKind
+unfolding changeForms plain terms
 returns-3 c =
     let read = c .before .before in
-    let first = read .before .before in
-    let found = read-behind "(change " "# (indifferent # #))" _ refl (begun (first .before .before .before)) (read .read-as2 .ensures) in
-    rule-fits (λ id rate burst. Change id indifferentKind rate burst) "(change # (indifferent # #))" [] _ found (c .before .if3 .taken)
-    (c .judge2 .ensures)
-    ∙ sym (first-off first)
-
-returns-4 : tie.Need-returns-4
-unfolding rules plain
-returns-4 c =
-    let read = c .before in
-    let first = read .before .before in
-    let found = read-behind "(change " "# (indifferent # #))" _ refl (begun (first .before .before .before)) (read .read-as2 .ensures) in
-    sym (first-off first ∙ rule-off _ [] _ found (c .if3 .left) ∙ no-rule _)
+    let begun = sym (read .before .before .starts .ensures) ∙ not-false _ (read .before .if1 .left) in
+    sym (forms-behind (bytes "(change ") _ refl terms begun ∙ read .read-terms .ensures _ ∙ rw (eq-eqb _ 0 (c .if2 .left)))
 
 pub parse-change-spec : {M : Type 1} → statement M
-parse-change-spec =
-    tie.close
-    (tie.spec slice-aggregate-starts starts-requires returns slice-aggregate-read-as read-as-requires judge-requires returns-2
-    slice-aggregate-read-as-2 read-as-requires-2 judge-requires-2 returns-3 returns-4)
+parse-change-spec = tie.close (tie.spec starts-requires returns read-terms-requires returns-2 returns-3)

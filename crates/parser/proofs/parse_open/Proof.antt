@@ -1,57 +1,72 @@
--- `parser::parse_open` meets its contract: a line that does not begin as its form does is none of it, and else the rest of it decides.
+-- `parser::parse_open` meets its contract: what refuses the line is its form's, and else the numbers are those of its call.
 -- Assumes nothing.
 use mathlib.Core.Path.{refl, sym, _∙_}
 use mathlib.Core.List.{[]}
-use borrow.Author.Tests.{not-true, not-false}
-use Rattle.grammar.specs.declared.Call.the-variants.{Open}
-use Rattle.grammar.specs.Grammar.{rules}
-use Rattle.parser.proofs.Forms.{no-rule, rule-fits, rule-off}
-use Rattle.parser.proofs.Texts.{plain, rule-missed, read-behind, not-begun}
+use native.Mathlib.Omega.{arith}
+use Rattle.definitions.specs.Sizes.{numberLimit}
+use Rattle.grammar.specs.Templates.{limits}
+use Rattle.grammar.specs.Grammar.{openForms}
+use Rattle.parser.specs.Texts.{plain}
+use Rattle.parser.proofs.Forms.{read-placed, read-within, rule-fits, only-refused}
 use borrow.Author.Needs.{needs}
 use Rattle.parser.proofs.parse_open.Statement.{statement}
 use Rattle.parser.proofs.parse_open.Tie as tie
 
-slice-aggregate-starts : tie.Need-slice-aggregate-starts
-slice-aggregate-starts c = search needs
+slice-aggregate-read-form : tie.Need-slice-aggregate-read-form
+slice-aggregate-read-form c = search needs
 
-starts-requires : tie.Need-starts-requires
-starts-requires c κs = search needs
+slice-aggregate-read-form-2 : tie.Need-slice-aggregate-read-form-2
+slice-aggregate-read-form-2 c = search needs
+
+read-form-requires : tie.Need-read-form-requires
+unfolding plain limits
+read-form-requires c κs = record { bare = refl; room = record { sized = refl; enough = omega arith } }
 
 returns : tie.Need-returns
-unfolding rules plain
-returns c =
-    let none = sym (c .before .starts .ensures) ∙ not-true _ (c .if1 .taken) in
-    sym (rule-missed _ [] _ (not-begun "(open " "# # #)" _ refl none) ∙ no-rule _)
+unfolding openForms
+returns c = sym (only-refused _ _ (c .before .read-form .ensures) (c .if1 .taken))
 
-slice-aggregate-read-as : tie.Need-slice-aggregate-read-as
-slice-aggregate-read-as c = search needs
+array-read-t14 : tie.Need-array-read-t14
+array-read-t14 c = search needs
 
-read-as-requires : tie.Need-read-as-requires
-read-as-requires c κs = search needs
+cast-t15 : tie.Need-cast-t15
+unfolding limits numberLimit
+cast-t15 c = omega (arith, read-within (c .before .read-form .ensures) (c .if1 .left) 0 (omega arith))
 
-judge-requires : tie.Need-judge-requires
-judge-requires c κs = search needs
+array-read-t18 : tie.Need-array-read-t18
+array-read-t18 c = search needs
+
+cast-t19 : tie.Need-cast-t19
+unfolding limits numberLimit
+cast-t19 c = omega (arith, read-within (c .before .read-form .ensures) (c .if1 .left) 1 (omega arith))
+
+array-read-t22 : tie.Need-array-read-t22
+array-read-t22 c = search needs
+
+cast-t23 : tie.Need-cast-t23
+unfolding limits numberLimit
+cast-t23 c = omega (arith, read-within (c .before .read-form .ensures) (c .if1 .left) 2 (omega arith))
 
 returns-2 : tie.Need-returns-2
-unfolding rules plain
+unfolding openForms limits
 returns-2 c =
-    let read = c .before .before in
-    let begun = read .before .before in
-    let found = read-behind "(open " "# # #)" _ refl (sym (begun .before .starts .ensures) ∙ not-false _ (begun .if1 .left))
-    (read .read-as .ensures) in
-    rule-fits (λ threshold discipline seed. Open threshold discipline seed) "(open # # #)" [] _ found (c .before .if2 .taken) (c .judge .ensures)
-
-returns-3 : tie.Need-returns-3
-unfolding rules plain
-returns-3 c =
-    let read = c .before in
-    let begun = read .before .before in
-    let found = read-behind "(open " "# # #)" _ refl (sym (begun .before .starts .ensures) ∙ not-false _ (begun .if1 .left))
-    (read .read-as .ensures) in
-    sym (rule-off _ [] _ found (c .if2 .left) ∙ no-rule _)
+    let read = c .before .read-form .ensures in
+    let e = c .if1 .left in
+    let at = read-placed read e in
+    sym (rule-fits _ [] _ read e ∙ rw (at 0 (omega arith), at 1 (omega arith), at 2 (omega arith)))
 
 pub parse-open-spec : {M : Type 1} → statement M
 parse-open-spec =
     tie.close
-    (tie.spec slice-aggregate-starts starts-requires returns slice-aggregate-read-as read-as-requires judge-requires returns-2
-    returns-3)
+    (tie.spec
+    slice-aggregate-read-form
+    slice-aggregate-read-form-2
+    read-form-requires
+    returns
+    array-read-t14
+    cast-t15
+    array-read-t18
+    cast-t19
+    array-read-t22
+    cast-t23
+    returns-2)

@@ -1,37 +1,54 @@
 -- `parser::read_as` meets its contract. The loop's invariant: what was found so far, with what the rest of the template finds in
 -- the rest of the line, is what the template finds in the line. The measure is what is left of the template. Assumes nothing.
 use Prim.Native.Nat.{_-_, _<_}
-use mathlib.Core.Path.{sym, _∙_}
 use mathlib.Core.Logic.{⊎-elim}
 use native.Mathlib.Omega.{arith}
 use borrow.Author.Needs.{needs}
 use borrow.Author.Tests.{not-true, not-false}
 use lib.ListN.{length}
-use Rattle.parser.proofs.Walk.{
+use Rattle.parser.specs.Readings.{numbersRoom}
+use Rattle.parser.proofs.TemplateWalk.{
   Walked,
+  Turn,
   walked-none,
+  walked-place,
   walked-gap,
   walked-gap-off,
   walked-byte,
   walked-byte-off,
   walked-there,
+  walked-behind,
+  walked-large,
   walked-all,
-  walked-all-off,
 }
 use Rattle.parser.proofs.read_as.Statement.{statement}
 use Rattle.parser.proofs.read_as.Tie as tie
 
 abbrev Inv-loop : tie.InvT-loop
-Inv-loop line from template reading₀ at₀ i₀ reading at i = Walked line from template reading at i
+Inv-loop line from template numbers₀ large₀ count₀ at₀ i₀ numbers large count at i =
+    Walked line from template large numbers count at i
 
 abbrev μ-loop : tie.MeasureT-loop
-μ-loop line from template reading₀ at₀ i₀ reading at i = length template - i
+μ-loop line from template numbers₀ large₀ count₀ at₀ i₀ numbers large count at i = length template - i
 
-misfits-requires : tie.Need-misfits-requires Inv-loop μ-loop
-misfits-requires c κs = search needs
+turn : (t : tie.After-gap-of Inv-loop μ-loop) →
+    let loop = t .before .before .before .before .loop in
+    let args = t .before .before .before .before .before .before .before .args in
+    Turn (args .line .now) (args .from) (args .template .now) (loop .large) (loop .numbers) (loop .count) (loop .at) (loop .i)
+    (t .before .wide .result) (t .gap-of .result)
+turn t =
+    let byte = t .before in
+    let loop = byte .before .before .before .loop in
+    record {
+      walked = loop .inv;
+      more = byte .before .before .loop-test .taken;
+      here = byte .wide .ensures;
+      small = omega (arith, byte .wide .ensures, byte .before .shared-slice-known3 .given (loop .i));
+      told = t .gap-of .ensures;
+    }
 
 loop-holds : tie.Need-loop-holds Inv-loop μ-loop
-loop-holds c = rw (c .misfits .ensures) (walked-none _ _ _)
+loop-holds c = walked-none _ _ _ _ (c .before .before .pre)
 
 shared-slice-read-wide : tie.Need-shared-slice-read-wide Inv-loop μ-loop
 shared-slice-read-wide c = search needs
@@ -39,52 +56,49 @@ shared-slice-read-wide c = search needs
 wide-requires : tie.Need-wide-requires Inv-loop μ-loop
 wide-requires c κs = search needs
 
+gap-of-requires : tie.Need-gap-of-requires Inv-loop μ-loop
+gap-of-requires c κs = search needs
+
 read-numeral-requires : tie.Need-read-numeral-requires Inv-loop μ-loop
 read-numeral-requires c κs = search needs
 
-misfits-requires-2 : tie.Need-misfits-requires-2 Inv-loop μ-loop
-misfits-requires-2 c κs = search needs
-
--- a byte of the template is one
-byte-small : (c : tie.After-wide Inv-loop μ-loop) → c .wide .result < 256
-byte-small c = omega (arith, c .wide .ensures, c .before .shared-slice-known3 .given (c .before .before .before .loop .i))
-
 returns : tie.Need-returns Inv-loop μ-loop
 returns c =
-    let gapped = c .before .before .before .before in
-    let t = gapped .before .before .before in
-    c .misfits2 .ensures ∙
-    sym
-    (walked-gap-off (t .before .loop .inv) (t .loop-test .taken) (gapped .before .wide .ensures) (gapped .if1 .taken)
-    (c .before .before .before .read-numeral .ensures) (not-true _ (c .before .if2 .taken)))
+    let spelled = c .before .before in
+    let gap = spelled .before in
+    walked-gap-off (turn (gap .before)) (gap .if1 .taken) (spelled .read-numeral .ensures) (not-true _ (c .if2 .taken))
 
-with-number-requires : tie.Need-with-number-requires Inv-loop μ-loop
-with-number-requires c κs = search needs
+-- a gap's number has its place
+place : (c : tie.Else2 Inv-loop μ-loop)
+    → c .before .before .before .before .before .before .before .before .loop .count < numbersRoom
+place c =
+    let gap = c .before .before .before in
+    walked-place (turn (gap .before)) (gap .if1 .taken)
+
+mul-numbers : tie.Need-mul-numbers Inv-loop μ-loop
+mul-numbers c = omega (arith, place c)
+
+element-write-numbers : tie.Need-element-write-numbers Inv-loop μ-loop
+element-write-numbers c = place c
+
+add-count : tie.Need-add-count Inv-loop μ-loop
+add-count c = omega (arith, place c)
+
+either-requires : tie.Need-either-requires Inv-loop μ-loop
+either-requires c κs = search needs
 
 byte-at-requires : tie.Need-byte-at-requires Inv-loop μ-loop
 byte-at-requires c κs = search needs
 
-misfits-requires-3 : tie.Need-misfits-requires-3 Inv-loop μ-loop
-misfits-requires-3 c κs = search needs
-
 returns-2 : tie.Need-returns-2 Inv-loop μ-loop
 returns-2 c =
-    let fixed = c .before .before .before in
-    let t = fixed .before .before .before in
-    c .misfits3 .ensures ∙
-    sym
-    (walked-byte-off (t .before .loop .inv) (t .loop-test .taken) (fixed .before .wide .ensures) (fixed .if1 .left)
-    (c .before .before .byte-at .ensures) (c .before .if3 .taken))
+    let fixed = c .before .before in
+    walked-byte-off (turn (fixed .before)) (fixed .if1 .left) (c .before .byte-at .ensures) (c .if3 .taken)
 
 add-at : tie.Need-add-at Inv-loop μ-loop
 add-at c =
     let fixed = c .before .before in
-    let t = fixed .before .before .before in
-    omega (
-      arith,
-      walked-there (t .before .loop .inv) (t .loop-test .taken) (fixed .before .wide .ensures) (byte-small (fixed .before))
-          (c .before .byte-at .ensures) (c .if3 .left),
-    )
+    omega (arith, walked-there (turn (fixed .before)) (fixed .if1 .left) (c .before .byte-at .ensures) (c .if3 .left))
 
 add-i : tie.Need-add-i Inv-loop μ-loop
 add-i c = omega arith
@@ -94,26 +108,26 @@ loop-less c = omega arith
 
 loop-again : tie.Need-loop-again Inv-loop μ-loop
 loop-again c =
-    let t = c .before .before .before in
+    let t = turn (c .before) in
     ⊎-elim
-    (λ g. rw (g .5, g .6)
-    (walked-gap (t .before .loop .inv) (t .loop-test .taken) (c .before .wide .ensures) (g .0 .taken) (g .1 .ensures)
-    (not-false _ (g .3 .left)) (g .4 .ensures)))
-    (λ f. rw (f .3, f .4)
-    (walked-byte (t .before .loop .inv) (t .loop-test .taken) (c .before .wide .ensures) (f .0 .left) (byte-small (c .before))
-    (f .1 .ensures) (f .2 .left)))
+    (λ g. rw (g .5, g .6, g .7, g .8) (walked-gap t (g .0 .taken) (g .1 .ensures) (not-false _ (g .3 .left)) (g .4 .ensures)))
+    (λ f. rw (f .3, f .4, f .5, f .6) (walked-byte t (f .0 .left) (f .1 .ensures) (f .2 .left)))
     (c .if1 .came)
-
-misfits-requires-4 : tie.Need-misfits-requires-4 Inv-loop μ-loop
-misfits-requires-4 c κs = search needs
 
 returns-3 : tie.Need-returns-3 Inv-loop μ-loop
 returns-3 c =
-    let t = c .before .before in
-    c .misfits4 .ensures ∙ sym (walked-all-off (t .before .loop .inv) (t .loop-test .left) (c .before .if4 .taken))
+    let t = c .before in
+    walked-behind (t .before .loop .inv) (t .loop-test .left) (c .if4 .taken)
 
 returns-4 : tie.Need-returns-4 Inv-loop μ-loop
-returns-4 c = let t = c .before in sym (walked-all (t .before .loop .inv) (t .loop-test .left) (c .if4 .left))
+returns-4 c =
+    let t = c .before .before in
+    walked-large (t .before .loop .inv) (t .loop-test .left) (c .before .if4 .left) (c .if5 .taken)
+
+returns-5 : tie.Need-returns-5 Inv-loop μ-loop
+returns-5 c =
+    let t = c .before .before in
+    walked-all (t .before .loop .inv) (t .loop-test .left) (c .before .if4 .left) (c .if5 .left)
 
 pub read-as-spec : {M : Type 1} → statement M
 read-as-spec =
@@ -121,21 +135,22 @@ read-as-spec =
     (tie.spec
     Inv-loop
     μ-loop
-    misfits-requires
     loop-holds
     shared-slice-read-wide
     wide-requires
+    gap-of-requires
     read-numeral-requires
-    misfits-requires-2
     returns
-    with-number-requires
+    mul-numbers
+    element-write-numbers
+    add-count
+    either-requires
     byte-at-requires
-    misfits-requires-3
     returns-2
     add-at
     add-i
     loop-less
     loop-again
-    misfits-requires-4
     returns-3
-    returns-4)
+    returns-4
+    returns-5)

@@ -1,18 +1,18 @@
--- `parser::read_numeral` meets its contract. The loop's invariant: the digits from `at` on, behind the value so far, spell what
--- all of them spell up to the cap, and nothing but digits was passed. The measure is what is left of the line. Assumes nothing.
+-- `parser::read_numeral` meets its contract. The loop's invariant: the digits from `at` on, behind the number so far, spell what
+-- all of them spell, and nothing but digits was passed. The measure is what is left of the line. Assumes nothing.
 use Prim.Native.Nat.{_-_}
 use native.Mathlib.Omega.{arith}
 use borrow.Author.Needs.{needs}
 use lib.ListN.{length}
-use Rattle.parser.proofs.Numerals.{Passed, passed-none, passed-more, passed-there, passed-all}
+use Rattle.parser.proofs.NumeralWalk.{Passed, passed-none, passed-more, passed-there, passed-all}
 use Rattle.parser.proofs.read_numeral.Statement.{statement}
 use Rattle.parser.proofs.read_numeral.Tie as tie
 
 abbrev Inv-loop : tie.InvT-loop
-Inv-loop line from first digit₀ at₀ value₀ digit at value = Passed line from at value digit
+Inv-loop line from limit first digit₀ at₀ amount₀ digit at amount = Passed line from at amount digit
 
 abbrev μ-loop : tie.MeasureT-loop
-μ-loop line from first digit₀ at₀ value₀ digit at value = length line - at
+μ-loop line from limit first digit₀ at₀ amount₀ digit at amount = length line - at
 
 digit-at-requires : tie.Need-digit-at-requires Inv-loop μ-loop
 digit-at-requires c κs = search needs
@@ -20,14 +20,8 @@ digit-at-requires c κs = search needs
 loop-holds : tie.Need-loop-holds Inv-loop μ-loop
 loop-holds c = passed-none _ _ _ (c .digit-at .ensures)
 
-mul-capped : tie.Need-mul-capped Inv-loop μ-loop
-mul-capped c = omega arith
-
-add-capped : tie.Need-add-capped Inv-loop μ-loop
-add-capped c = omega arith
-
-capped-requires : tie.Need-capped-requires Inv-loop μ-loop
-capped-requires c κs = search needs
+more-requires : tie.Need-more-requires Inv-loop μ-loop
+more-requires c κs = search needs
 
 add-at : tie.Need-add-at Inv-loop μ-loop
 add-at c = omega (arith, passed-there (c .before .before .loop .inv) (c .before .loop-test .taken))
@@ -43,7 +37,7 @@ loop-less c =
 loop-again : tie.Need-loop-again Inv-loop μ-loop
 loop-again c =
     let t = c .before .before in
-    passed-more (t .before .loop .inv) (t .loop-test .taken) (c .before .capped .ensures) (c .digit-at2 .ensures)
+    passed-more (t .before .loop .inv) (t .loop-test .taken) (c .before .more .ensures) (c .digit-at2 .ensures)
 
 sub-is-spelled : tie.Need-sub-is-spelled Inv-loop μ-loop
 sub-is-spelled c = omega arith
@@ -51,10 +45,15 @@ sub-is-spelled c = omega arith
 is-spelled-requires : tie.Need-is-spelled-requires Inv-loop μ-loop
 is-spelled-requires c κs = search needs
 
+exceeds-requires : tie.Need-exceeds-requires Inv-loop μ-loop
+exceeds-requires c κs = search needs
+
 returns : tie.Need-returns Inv-loop μ-loop
 returns c =
-    let t = c .before in
-    passed-all (t .before .loop .inv) (t .loop-test .left) (t .before .before .digit-at .ensures) (c .is-spelled .ensures)
+    let spelled = c .before in
+    let t = spelled .before in
+    passed-all (t .before .loop .inv) (t .loop-test .left) (omega arith) (t .before .before .digit-at .ensures)
+    (spelled .is-spelled .ensures) (c .exceeds .ensures)
 
 pub read-numeral-spec : {M : Type 1} → statement M
 read-numeral-spec =
@@ -64,13 +63,12 @@ read-numeral-spec =
     μ-loop
     digit-at-requires
     loop-holds
-    mul-capped
-    add-capped
-    capped-requires
+    more-requires
     add-at
     digit-at-requires-2
     loop-less
     loop-again
     sub-is-spelled
     is-spelled-requires
+    exceeds-requires
     returns)

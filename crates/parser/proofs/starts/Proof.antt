@@ -38,7 +38,9 @@ returns-2 c =
     let turn = c .before .before .before in
     let args = turn .before .before .before .args in
     let loop = turn .before .loop in
-    sym (loop .inv .0 ∙ other-here (args .text .now) (args .line .now) (loop .i) (turn .loop-test .taken) (within turn) (c .if2 .taken))
+    sym
+    (loop .inv .0
+    ∙ other-here (args .text .now) (args .line .now) (loop .i) (turn .loop-test .taken) (within turn) (c .if2 .taken))
 
 add-i : tie.Need-add-i Inv-loop μ-loop
 add-i c = search needs
@@ -51,7 +53,8 @@ loop-again c =
     let turn = c .before .before .before in
     let args = turn .before .before .before .args in
     let loop = turn .before .loop in (
-      loop .inv .0 ∙ same-here (args .text .now) (args .line .now) (loop .i) (turn .loop-test .taken) (within turn) (c .if2 .left),
+      loop .inv .0
+          ∙ same-here (args .text .now) (args .line .now) (loop .i) (turn .loop-test .taken) (within turn) (c .if2 .left),
       loop .inv .1,
       omega (arith, turn .loop-test .taken),
     )

@@ -10,42 +10,43 @@ use borrow.Author.Tests.{eq-eqb, not-true}
 use lib.Dec.{eqb}
 use lib.ListN.{length}
 use Rattle.grammar.specs.Numerals.{isDigit, decimal}
-use Rattle.grammar.specs.Templates.{gap, gaps, filled, withNumber, matched}
+use Rattle.grammar.specs.Templates.{isGap, limits, gaps, filled, withNumber, matched}
 use Rattle.grammar.proofs.Decimals.{Bare, decimal-leading, decimal-behind, decimal-numeral, decimal-value}
 use Rattle.grammar.proofs.Matching.{gap-fits, byte-fits, byte-misfits}
 
 -- whether a gap may stand before some bytes of a template: they begin with neither a digit nor a gap
 unfoldable pub clear : List ℕ → Bool
 clear [] = true
-clear (b ∷ bs) = not (isDigit b) && not (eqb b gap)
+clear (b ∷ bs) = not (isDigit b) && not (isGap b)
 
 -- whether each number ends where its gap does
 unfoldable pub spaced : List ℕ → Bool
 spaced [] = true
-spaced (b ∷ bs) = cond (eqb b gap) (clear bs) true && spaced bs
+spaced (b ∷ bs) = cond (isGap b) (clear bs) true && spaced bs
 
 -- whether two templates differ at a fixed byte, with the same bytes and gaps before it
 unfoldable pub apart : List ℕ → List ℕ → Bool
 apart [] u = false
 apart (b ∷ bs) [] = false
 apart (b ∷ bs) (c ∷ cs) =
-    cond (eqb b gap) (eqb c gap && apart bs cs) (cond (eqb c gap) false (cond (eqb b c) (apart bs cs) true))
+    cond (isGap b) (isGap c && apart bs cs) (cond (isGap c) false (cond (eqb b c) (apart bs cs) true))
 
-spaced-gap : (b : ℕ) (bs : List ℕ) → spaced (b ∷ bs) ≡ true → eqb b gap ≡ true → clear bs ≡ true
+spaced-gap : (b : ℕ) (bs : List ℕ) → spaced (b ∷ bs) ≡ true → isGap b ≡ true → clear bs ≡ true
 unfolding spaced
-spaced-gap b bs e g = rw g at (and-eq-true-iff (cond (eqb b gap) (clear bs) true) (spaced bs) .0 e .0)
+spaced-gap b bs e g = rw g at (and-eq-true-iff (cond (isGap b) (clear bs) true) (spaced bs) .0 e .0)
 
 spaced-rest : (b : ℕ) (bs : List ℕ) → spaced (b ∷ bs) ≡ true → spaced bs ≡ true
 unfolding spaced
-spaced-rest b bs e = and-eq-true-iff (cond (eqb b gap) (clear bs) true) (spaced bs) .0 e .1
+spaced-rest b bs e = and-eq-true-iff (cond (isGap b) (clear bs) true) (spaced bs) .0 e .1
 
 -- a byte that is no gap is written as it is, and a gap is filled
-pub filled-byte : (b : ℕ) (bs ns : List ℕ) → eqb b gap ≡ false → filled (b ∷ bs) ns ≡ b ∷ filled bs ns
+pub filled-byte : (b : ℕ) (bs ns : List ℕ) → isGap b ≡ false → filled (b ∷ bs) ns ≡ b ∷ filled bs ns
 unfolding filled
 filled-byte b bs [] g = refl
 filled-byte b bs (n ∷ ns) g = rw (filled, g)
 
-pub filled-gap : (b : ℕ) (bs : List ℕ) (n : ℕ) (ns : List ℕ) → eqb b gap ≡ true → filled (b ∷ bs) (n ∷ ns) ≡ decimal n ++ filled bs ns
+pub filled-gap : (b : ℕ) (bs : List ℕ) (n : ℕ) (ns : List ℕ) → isGap b ≡ true
+    → filled (b ∷ bs) (n ∷ ns) ≡ decimal n ++ filled bs ns
 unfolding filled
 filled-gap b bs n ns g = rw (filled, g)
 
@@ -53,11 +54,11 @@ clear-bare : (bs ns : List ℕ) → clear bs ≡ true → Bare (filled bs ns)
 unfolding clear filled
 clear-bare [] ns e = tt
 clear-bare (b ∷ bs) ns e =
-    let o = and-eq-true-iff (not (isDigit b)) (not (eqb b gap)) .0 e in
-    rw (filled-byte b bs ns (not-true (eqb b gap) (o .1))) (not-true (isDigit b) (o .0))
+    let o = and-eq-true-iff (not (isDigit b)) (not (isGap b)) .0 e in
+    rw (filled-byte b bs ns (not-true (isGap b) (o .1))) (not-true (isDigit b) (o .0))
 
 -- a gap takes the number that it was filled with, and no more
-gap-taken : (b : ℕ) (bs : List ℕ) (n : ℕ) (rest : List ℕ) → eqb b gap ≡ true → Bare rest
+gap-taken : (b : ℕ) (bs : List ℕ) (n : ℕ) (rest : List ℕ) → isGap b ≡ true → Bare rest
     → matched (b ∷ bs) (decimal n ++ rest) ≡ withNumber n (matched bs rest)
 gap-taken b bs n rest g e =
     gap-fits b bs (decimal n ++ rest) g (rw (decimal-leading n rest e) (decimal-numeral n)) ∙
@@ -65,12 +66,12 @@ gap-taken b bs n rest g e =
 
 -- a template reads back the numbers that it is filled with
 pub filled-matched : (t ns : List ℕ) → spaced t ≡ true → length ns ≡ gaps t → matched t (filled t ns) ≡ some ns
-unfolding gaps matched filled
+unfolding limits matched filled
 filled-matched [] [] e l = refl
 filled-matched [] (n ∷ ns) e l = absurd (omega arith)
-filled-matched (b ∷ bs) ns e l = go (eqb b gap) refl ns l (λ ms k. filled-matched bs ms (spaced-rest b bs e) k)
+filled-matched (b ∷ bs) ns e l = go (isGap b) refl ns l (λ ms k. filled-matched bs ms (spaced-rest b bs e) k)
   where
-    go : (t : Bool) → eqb b gap ≡ t → (ns : List ℕ) → length ns ≡ gaps (b ∷ bs)
+    go : (t : Bool) → isGap b ≡ t → (ns : List ℕ) → length ns ≡ gaps (b ∷ bs)
         → ((ms : List ℕ) → length ms ≡ gaps bs → matched bs (filled bs ms) ≡ some ms)
         → matched (b ∷ bs) (filled (b ∷ bs) ns) ≡ some ns
     go true g [] l rest = absurd (let l′ = rw g at l in omega arith)
@@ -82,13 +83,13 @@ filled-matched (b ∷ bs) ns e l = go (eqb b gap) refl ns l (λ ms k. filled-mat
 
 -- a template reads nothing of what another is filled with
 pub apart-matched : (t u ns : List ℕ) → apart t u ≡ true → spaced u ≡ true → length ns ≡ gaps u → matched t (filled u ns) ≡ none
-unfolding apart gaps
+unfolding apart limits
 apart-matched [] u ns a e l = absurd (true≢false (sym a))
 apart-matched (b ∷ bs) [] ns a e l = absurd (true≢false (sym a))
 apart-matched (b ∷ bs) (c ∷ cs) ns a e l =
-    go (eqb b gap) (eqb c gap) (eqb b c) refl refl refl a ns l (λ ms q k. apart-matched bs cs ms q (spaced-rest c cs e) k)
+    go (isGap b) (isGap c) (eqb b c) refl refl refl a ns l (λ ms q k. apart-matched bs cs ms q (spaced-rest c cs e) k)
   where
-    go : (s t w : Bool) → eqb b gap ≡ s → eqb c gap ≡ t → eqb b c ≡ w
+    go : (s t w : Bool) → isGap b ≡ s → isGap c ≡ t → eqb b c ≡ w
         → cond s (t && apart bs cs) (cond t false (cond w (apart bs cs) true)) ≡ true
         → (ns : List ℕ) → length ns ≡ gaps (c ∷ cs)
         → ((ms : List ℕ) → apart bs cs ≡ true → length ms ≡ gaps cs → matched bs (filled cs ms) ≡ none)
