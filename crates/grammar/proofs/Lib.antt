@@ -4,6 +4,5 @@ pub mod Decimals
 pub mod Filling
 pub mod RoundTrip
 pub mod Lines
-pub mod Rooms
 pub mod Splits
 pub mod Sheets

@@ -18,7 +18,7 @@ const LINE_ROOM: usize = 64;
 const ZERO: u32 = 48;
 
 // Whether a line's room is left behind a place, with no sum that could wrap.
-fn has_room(size: usize, at: usize) -> bool
+pub fn has_room(size: usize, at: usize) -> bool
     ensures { λ r. ⌜ r ≡ leb (at + lineRoom) size ⌝ }
 {
     if size < LINE_ROOM {

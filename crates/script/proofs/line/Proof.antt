@@ -2,10 +2,10 @@
 use native.Mathlib.Omega.{arith}
 use mathlib.Core.Path.{sym, ap, _∙_}
 use Rattle.grammar.specs.declared.Line.the-variants.{Refused as Unread}
-use Rattle.script.specs.Walk.{unreadNumber}
+use Rattle.script.specs.UnreadLine.{unreadNumber}
 use Rattle.reader.specs.Lines.{LineEnd}
 use Rattle.reader.proofs.Ends.{span-end}
-use Rattle.script.proofs.Walks.{walk-open, walk-unread, walk-form}
+use Rattle.script.proofs.LineWalked.{walked-open, walked-unread, walked-form}
 use borrow.Author.Needs.{needs}
 use Rattle.script.proofs.line.Statement.{statement}
 use Rattle.script.proofs.line.Tie as tie
@@ -27,7 +27,8 @@ returns : tie.Need-returns
 returns c =
     let found = c .before .before .before .before .before in
     let start = found .before .before .before in
-    walk-open _ _ _ _ _ _ (start .pre .0) (start .pre .1) _ (found .line-at .ensures) _ _ (c .before .before .before .before .if1 .taken)
+    walked-open _ _ _ _ _ _ (start .pre .1) (start .pre .2) _ (found .line-at .ensures) (start .pre .0)
+    (c .before .before .before .before .if1 .taken)
     (c .before .before .print-refused .ensures)
 
 sub-parse : tie.Need-sub-parse
@@ -64,7 +65,7 @@ returns-2 c =
     let within = ends found .within in
     let more = c .before .before .before .before .before .before .before .before .before .if1 .left in
     let none = c .before .before .before .before .before .enum-told .given .1 in
-    walk-unread _ _ _ _ _ _ (start .pre .0) (start .pre .1) _ (found .line-at .ensures) (omega (arith, within)) _ _ _
+    walked-unread _ _ _ _ _ _ (start .pre .1) (start .pre .2) _ (found .line-at .ensures) (omega (arith, within)) _ (start .pre .0)
     (sym (c .before .before .before .before .before .before .before .parse .ensures) ∙ none ∙ ap Unread (sym (c .before .before .before .before .unread-number .ensures ∙ ap unreadNumber none)))
     (c .before .before .print-refused2 .ensures)
 
@@ -83,7 +84,7 @@ returns-3 c =
     let start = found .before .before .before in
     let within = ends found .within in
     let more = c .before .before .before .before .before .before .before .before .before .before .before .before .before .before .before .if1 .left in
-    walk-form _ _ _ _ _ _ (start .pre .0) (start .pre .1) _ (found .line-at .ensures) (omega (arith, within)) _ _ _
+    walked-form _ _ _ _ _ _ (start .pre .1) (start .pre .2) _ (found .line-at .ensures) (omega (arith, within)) _
     (sym (c .before .before .before .before .before .before .before .before .before .before .before .before .before .parse .ensures) ∙ c .before .before .before .before .before .before .before .before .before .before .before .read .given .1) _ _
     (c .before .before .before .before .before .perform .ensures) (c .before .before .print .ensures)
 
