@@ -2,3 +2,4 @@ pub mod LinePrinted
 pub mod LineWalked
 pub mod GoingOn
 pub mod PiecesPrinted
+pub mod PiecesExample
