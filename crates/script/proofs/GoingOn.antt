@@ -8,9 +8,10 @@ use lib.ListN.{length}
 use borrow.Author.Tests.{leb-true, leb-false, lt-leb, not-true}
 use Rattle.definitions.proofs.Laws.Tests.{and-both}
 use Rattle.printer.specs.Printed.{lineRoom}
-use Rattle.reader.specs.Lines.{isEnd}
+use Rattle.reader.specs.LineSpans.{isEnd}
 
-module _ (text : List ℕ) (at size written : ℕ) {test : Bool} (asked : test ≡ (not (isEnd text at) && leb (written + lineRoom) size)) where
+module _ (text : List ℕ) (at size written : ℕ) {test : Bool}
+    (asked : test ≡ (not (isEnd text at) && leb (written + lineRoom) size)) where
   pub on : test ≡ true → (at < length text) × (written + lineRoom ≤ size)
   on holds =
       let both = and-both (not (isEnd text at)) (leb (written + lineRoom) size) (sym asked ∙ holds) in

@@ -11,7 +11,7 @@ use Rattle.grammar.specs.Bytes.{lineFeed, Unbroken}
 use Rattle.grammar.specs.Grammar.{parsed}
 use Rattle.grammar.specs.Printout.{printed, answered, printedFrom}
 use Rattle.grammar.proofs.Lines.{line-closed, line-open}
-use Rattle.reader.specs.Lines.{between}
+use Rattle.reader.specs.LineSpans.{between}
 use Rattle.script.specs.Pieces.{ahead}
 
 -- nothing is ahead behind the last byte
@@ -22,7 +22,8 @@ ahead-none core text at past = ap (printedFrom core []) (drop-of-length-le text 
 module _ (core : Core) (text : List ℕ) (at : ℕ) (before after : List ℕ) where
   -- a line that a line feed closes
   module _ (end : ℕ) (forth : at ≤ end) where
-    split-closed : end < length text → getD text end 0 ≡ lineFeed → drop at text ≡ between text at end ++ lineFeed ∷ drop (suc end) text
+    split-closed : end < length text → getD text end 0 ≡ lineFeed
+        → drop at text ≡ between text at end ++ lineFeed ∷ drop (suc end) text
     split-closed inside feed =
         let whole : at + (end - at) ≡ end = omega arith in
         sym (take-append-drop (end - at) (drop at text))

@@ -27,8 +27,8 @@ use Rattle.tables.specs.Meaning.{coreOf}
 use Rattle.tables.specs.Invariant.{Valid}
 use Rattle.tables.specs.Promise.{Meets}
 use Rattle.reader.specs.declared.Span.{Span}
-use Rattle.reader.specs.Lines.{between, spanAt, LineEnd}
-use Rattle.reader.proofs.Ends.{span-end, span-feed, span-last}
+use Rattle.reader.specs.LineSpans.{between, spanAt, LineEnd}
+use Rattle.reader.proofs.LineEnds.{span-end, span-feed, span-last}
 use Rattle.script.specs.declared.Progress.{Progress}
 use Rattle.script.specs.Pieces.{ahead, Walked}
 use Rattle.script.proofs.LinePrinted.{closed-printed, open-printed}
@@ -46,7 +46,8 @@ module _ (text : List ℕ) (at : ℕ) (out : List ℕ) (written : ℕ) (c : Cont
   l : LineEnd text at end
   l = span-end text at span read (omega arith)
 
-  wrote : {answer : Answer} {new : List ℕ} {more : ℕ} → Printed answer out written new more → Appended (printed answer) out written new more
+  wrote : {answer : Answer} {new : List ℕ} {more : ℕ} → Printed answer out written new more
+      → Appended (printed answer) out written new more
   wrote p = p .written room
 
   further : {answer : Answer} {new : List ℕ} {more : ℕ} → Printed answer out written new more
@@ -54,9 +55,10 @@ module _ (text : List ℕ) (at : ℕ) (out : List ℕ) (written : ℕ) (c : Cont
       → take more new ++ ahead (coreOf d u) text next ≡ take written out ++ ahead (coreOf c t) text at
       → Further new more d u
   further {new = new} {more} p d u next valid e forth within printed =
-      let a = wrote p in (
+      let a = wrote p in
+      let goal = take written out ++ ahead (coreOf c t) text at in (
         record {
-          printed = subst (λ (n : ℕ). take more new ++ ahead (coreOf d u) text n ≡ take written out ++ ahead (coreOf c t) text at) (sym e) printed;
+          printed = subst (λ (n : ℕ). take more new ++ ahead (coreOf d u) text n ≡ goal) (sym e) printed;
           fits = omega (arith, a .room, appended-length a);
           within = λ before. omega (arith, e, within);
           valid = valid;
@@ -81,7 +83,8 @@ module _ (text : List ℕ) (at : ℕ) (out : List ℕ) (written : ℕ) (c : Cont
         → coreOf d u ≡ answered (coreOf c t) line .core
         → Further new more d u
     closed {new} {more} p line held d u valid answer core =
-        let next = closed-printed (coreOf c t) text at (take written out) (take more new) end (l .forth) feed (l .closed feed) (l .unbroken)
+        let next =
+        closed-printed (coreOf c t) text at (take written out) (take more new) end (l .forth) feed (l .closed feed) (l .unbroken)
         (appended-front (wrote p)
         ∙ ap (λ (x : Answer). take written out ++ printed x)
         (answer ∙ ap (λ (x : Line). answered (coreOf c t) x .answer) (sym held))) in

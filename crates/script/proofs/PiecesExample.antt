@@ -37,7 +37,12 @@ Ended text = (bytes : List ℕ) × (c : Control) × (t : Tables) × Written text
 
 -- a text that is read, in one buffer for all that it prints
 read : (text : List ℕ) → length text ≤ textLimit → Ended text
-read text short = (take (length out) out, shut, emptyTables, piece (started (start-read text shut new (replicate 64 0) short) (omega arith)) all)
+read text short = (
+  take (length out) out,
+  shut,
+  emptyTables,
+  piece (started (start-read text shut new (replicate 64 0) short) (omega arith)) all,
+)
   where
     out : List ℕ
     out = ahead (coreOf shut emptyTables) text 0
@@ -46,7 +51,8 @@ read text short = (take (length out) out, shut, emptyTables, piece (started (sta
     all = record {
       walked = record {
         printed =
-            ap (λ (l : List ℕ). take (length out) out ++ l) (ahead-none (coreOf shut emptyTables) text (length text) (omega arith))
+            ap (λ (l : List ℕ). take (length out) out ++ l)
+            (ahead-none (coreOf shut emptyTables) text (length text) (omega arith))
             ∙ append-nil (take (length out) out)
             ∙ take-all (length out) out (omega arith);
         fits = omega arith;

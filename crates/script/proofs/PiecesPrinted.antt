@@ -1,5 +1,5 @@
--- The pieces of a text are its printout: each equation puts what one piece wrote before what is ahead, so they chain, whatever the
--- buffers' lengths. Assumes nothing.
+-- The pieces of a text are its printout: each equation puts what one piece wrote before what is ahead, so they chain, whatever
+-- the buffers' lengths. Assumes nothing.
 use Prim.Native.Nat.{ℕ, _+_, _≤_, _<_}
 use mathlib.Core.Path.{_≡_, refl, sym, ap, _∙_}
 use mathlib.Core.List.{List, [], _++_, append-assoc, append-nil}
@@ -27,7 +27,8 @@ pub walked-none : (text : List ℕ) (at : ℕ) (c : Control) (t : Tables) (out :
     → Walked text at c t [] out (record { control = c; next = at; written = 0 }) t
 walked-none text at c t out valid = record { printed = refl; fits = omega arith; within = λ here. here; valid = valid }
 
-pub walked-more : {text : List ℕ} {at : ℕ} {c : Control} {t : Tables} {before out : List ℕ} {r : Progress} {u : Tables} {last : List ℕ}
+pub walked-more : {text : List ℕ} {at : ℕ} {c : Control} {t : Tables} {before out : List ℕ} {r : Progress} {u : Tables}
+    {last : List ℕ}
     {s : Progress} {v : Tables}
     → Walked text at c t before out r u
     → Walked text (r .next) (r .control) u (take (r .written) out) last s v
@@ -103,5 +104,6 @@ pub pieces-printed : PiecesPrinted
 pieces-printed = record {
   sofar = sofar;
   whole = λ text bytes at c t w past.
-      sym (append-nil bytes) ∙ ap (λ (l : List ℕ). bytes ++ l) (sym (ahead-none (coreOf c t) text at past)) ∙ sofar text bytes at c t w;
+      sym (append-nil bytes) ∙ ap (λ (l : List ℕ). bytes ++ l) (sym (ahead-none (coreOf c t) text at past))
+      ∙ sofar text bytes at c t w;
 }

@@ -1,5 +1,6 @@
--- There are pieces as `Pieces` speaks of them: to the end of any text; and, as an example, those of a text of two lines into three
--- buffers. The first has no room for a line, and nothing is written; the second has room for one line; the third is given the rest.
+-- There are pieces as `Pieces` speaks of them: to the end of any text; and, as an example, those of a text of two lines into
+-- three buffers. The first has no room for a line, and nothing is written; the second has room for one line; the third is given
+-- the rest.
 use Prim.Native.Nat.{ℕ}
 use mathlib.Core.List.{List, [], _++_}
 use lib.ListN.{length, replicate}

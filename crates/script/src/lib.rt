@@ -12,7 +12,7 @@ ghost use lib.Dec.{leb};
 ghost use lib.ListN.{length, take};
 ghost use Prim.Native.Nat.{_+_, _≤_, _<_};
 ghost use Rattle.printer.specs.Printed.{lineRoom};
-ghost use Rattle.reader.specs.Lines.{isEnd};
+ghost use Rattle.reader.specs.LineSpans.{isEnd};
 ghost use Rattle.tables.specs.Tables.{tables};
 ghost use Rattle.tables.specs.Invariant.{Valid};
 ghost use Rattle.tables.specs.Promise.{Meets};
@@ -227,12 +227,12 @@ pub fn piece(
         (tables (now (clients .exit)) (now (handles .exit)) (now (lengths .exit)) (now (links .exit))) ⌝ }
 {
     let mut core = control;
-    let mut next = at;
+    let mut place = at;
     let mut written: usize = 0;
-    while goes_on(text, next, out.len(), written) {
+    while goes_on(text, place, out.len(), written) {
         let progress = line(
             text,
-            next,
+            place,
             out,
             written,
             core,
@@ -242,12 +242,12 @@ pub fn piece(
             links,
         );
         core = progress.control;
-        next = progress.next;
+        place = progress.next;
         written = progress.written;
     }
     Progress {
         control: core,
-        next,
+        next: place,
         written,
     }
 }

@@ -1,5 +1,5 @@
--- Between two pieces: some bytes were handed on, piece behind piece, and counted. Each piece goes a byte of the text further at least,
--- so the count fits; at the end of the text it is the printout's length (script, PiecesPrinted). Assumes nothing.
+-- Between two pieces: some bytes were handed on, piece behind piece, and counted. Each piece goes a byte of the text further at
+-- least, so the count fits; at the end of the text it is the printout's length (script, PiecesPrinted). Assumes nothing.
 use Prim.Native.Nat.{ℕ, _+_, _*_, _≤_, _<_}
 use mathlib.Core.Path.{_≡_, sym, ap, _∙_}
 use mathlib.Core.List.{List, _++_}
@@ -42,21 +42,29 @@ counted-first {out = out} {r} s room t = record {
 }
 
 module _ {text out : List ℕ} {c : Control} {t : Tables} {at written total : ℕ} (k : Counted text out c t at written total) where
-  pub counted-on : {new : List ℕ} {r : Progress} {u : Tables} → Piece text at c t new r u → length new ≡ length out → at < length text
+  pub counted-on : {new : List ℕ} {r : Progress} {u : Tables} → Piece text at c t new r u → length new ≡ length out
+      → at < length text
       → at < r .next
   counted-on p same inside = p .onward inside (omega (arith, k .room))
 
-  pub counted-fits : {new : List ℕ} {r : Progress} {u : Tables} → Piece text at c t new r u → length new ≡ length out → at < length text
+  pub counted-fits : {new : List ℕ} {r : Progress} {u : Tables} → Piece text at c t new r u → length new ≡ length out
+      → at < length text
       → total + r .written ≤ pieceRoom * textLimit + pieceRoom
   unfolding textLimit
   counted-fits p same inside = omega (arith, k .few, k .room, k .read inside, p .walked .fits)
 
-  pub counted-more : {new : List ℕ} {r : Progress} {u : Tables} → Piece text at c t new r u → length new ≡ length out → at < length text
+  pub counted-more : {new : List ℕ} {r : Progress} {u : Tables} → Piece text at c t new r u → length new ≡ length out
+      → at < length text
       → Counted text new (r .control) u (r .next) (r .written) (total + r .written)
   counted-more {new} {r} p same inside = record {
     bytes = k .bytes ++ take (r .written) new;
     sofar = piece (k .sofar) p;
-    count = omega (arith, k .count, length-append (k .bytes) (take (r .written) new), length-take-le (r .written) new (p .walked .fits));
+    count = omega (
+      arith,
+      k .count,
+      length-append (k .bytes) (take (r .written) new),
+      length-take-le (r .written) new (p .walked .fits),
+    );
     room = k .room ∙ sym same;
     fits = p .walked .fits;
     within = p .walked .within (k .within);

@@ -1,5 +1,5 @@
--- What writing gave, beside the text whose printout was to be written: as many bytes were handed on as the printout has. Of a failed
--- write nothing is said.
+-- What writing gave, beside the text whose printout was to be written: as many bytes were handed on as the printout has. Of a
+-- failed write nothing is said.
 use Prim.Native.Nat.{ℕ}
 use mathlib.Core.Path.{_≡_}
 use mathlib.Core.List.{List}

@@ -27,8 +27,8 @@ enum Writing {
     Failed,
 }
 
-// One read into the room; no bytes are the end of the input. What the read gave tells whether it failed, and errno is asked only of
-// one that did. A read that a signal interrupted, before it gave a byte, is tried again.
+// One read into the room; no bytes are the end of the input. What the read gave tells whether it failed, and errno is asked
+// only of one that did. A read that a signal interrupted, before it gave a byte, is tried again.
 fn read_some(room: &mut [u8]) -> Reading
     ensures { λ r. ⌜ Within r (now (room .exit)) ⌝ }
 {
@@ -64,8 +64,8 @@ fn read_text(room: &mut [u8]) -> Reading
     Reading::Bytes(length)
 }
 
-// Writes what the start of a script left in the buffer, and piece by piece what is behind it, to the end of the text or a write that
-// fails.
+// Writes what the start of a script left in the buffer, and piece by piece what is behind it, to the end of the text or a write
+// that fails.
 fn write_pieces(
     text: &[u8],
     out: &mut [u8],

@@ -7,8 +7,8 @@ use Rattle.definitions.specs.declared.Answer.the-variants.{Refused}
 use Rattle.grammar.specs.Bytes.{bytes}
 use Rattle.grammar.specs.Templates.{filled}
 use Rattle.grammar.specs.Printout.{printed}
-use Rattle.printer.proofs.Filling.{Small, filled-room, filled-end}
-use Rattle.printer.proofs.Rooms.{roomy, unwritten, wrote}
+use Rattle.printer.proofs.FilledLength.{Small, filled-room, filled-end}
+use Rattle.printer.proofs.LineRoom.{roomy, unwritten, wrote}
 use Rattle.printer.proofs.print_refused.Statement.{statement}
 use Rattle.printer.proofs.print_refused.Tie as tie
 

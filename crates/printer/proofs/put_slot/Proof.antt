@@ -10,7 +10,7 @@ use Rattle.definitions.specs.declared.Answer.the-variants.{Slot}
 use Rattle.definitions.specs.Answers.{values}
 use Rattle.grammar.specs.Templates.{filled}
 use Rattle.grammar.specs.Printout.{printed}
-use Rattle.printer.proofs.Filling.{slot-room, slot-end}
+use Rattle.printer.proofs.FilledLength.{slot-room, slot-end}
 use Rattle.printer.proofs.Appending.{appended-as}
 use Rattle.printer.proofs.put_slot.Statement.{statement}
 use Rattle.printer.proofs.put_slot.Tie as tie

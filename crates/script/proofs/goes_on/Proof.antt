@@ -14,7 +14,8 @@ ended-requires c κs = search needs
 returns : tie.Need-returns
 returns c =
     let start = c .before .before .before .args in
-    ap (λ (past : Bool). not past && leb (start .written + lineRoom) (start .size)) (sym (c .if1 .taken) ∙ c .before .ended .ensures)
+    ap (λ (past : Bool). not past && leb (start .written + lineRoom) (start .size))
+    (sym (c .if1 .taken) ∙ c .before .ended .ensures)
 
 has-room-requires : tie.Need-has-room-requires
 has-room-requires c κs = search needs
@@ -23,7 +24,8 @@ returns-2 : tie.Need-returns-2
 returns-2 c =
     let start = c .before .before .before .before .args in
     c .has-room .ensures
-    ∙ ap (λ (past : Bool). not past && leb (start .written + lineRoom) (start .size)) (sym (c .before .if1 .left) ∙ c .before .before .ended .ensures)
+    ∙ ap (λ (past : Bool). not past && leb (start .written + lineRoom) (start .size))
+    (sym (c .before .if1 .left) ∙ c .before .before .ended .ensures)
 
 pub goes-on-spec : {M : Type 1} → statement M
 goes-on-spec = tie.close (tie.spec ended-requires returns has-room-requires returns-2)

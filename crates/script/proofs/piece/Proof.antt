@@ -1,5 +1,5 @@
--- `script::piece` meets its contract: the lines read so far are walked, and nothing is written before the first. The measure is what
--- is left of the text. Assumes nothing.
+-- `script::piece` meets its contract: the lines read so far are walked, and nothing is written before the first. The measure is
+-- what is left of the text. Assumes nothing.
 use native.Mathlib.Omega.{arith}
 use Prim.Native.Nat.{_+_, _-_, _≤_, _<_}
 use mathlib.Core.Path.{_≡_, refl}
@@ -15,16 +15,17 @@ use Rattle.script.proofs.piece.Statement.{statement}
 use Rattle.script.proofs.piece.Tie as tie
 
 abbrev Inv-loop : tie.InvT-loop
-Inv-loop text at out₀ clients₀ handles₀ lengths₀ links₀ core₀ next₀ written₀ out clients handles lengths links core next written =
+Inv-loop text at out₀ clients₀ handles₀ lengths₀ links₀ core₀ place₀ written₀ out clients handles lengths links core place written =
     (length out ≡ length out₀)
-    × Walked text at core₀ (tables clients₀ handles₀ lengths₀ links₀) [] out (record { control = core; next = next; written = written })
+    × Walked text at core₀ (tables clients₀ handles₀ lengths₀ links₀) [] out
+    (record { control = core; next = place; written = written })
     (tables clients handles lengths links)
-    × (at ≤ next)
-    × (next ≤ at → written ≡ 0)
+    × (at ≤ place)
+    × (place ≤ at → written ≡ 0)
 
 abbrev μ-loop : tie.MeasureT-loop
-μ-loop text at out₀ clients₀ handles₀ lengths₀ links₀ core₀ next₀ written₀ out clients handles lengths links core next written =
-    length text - next
+μ-loop text at out₀ clients₀ handles₀ lengths₀ links₀ core₀ place₀ written₀ out clients handles lengths links core place written =
+    length text - place
 
 loop-holds : tie.Need-loop-holds Inv-loop μ-loop
 loop-holds c = (refl, walked-none _ _ _ _ _ (c .before .before .pre), omega arith, λ still. refl)
@@ -35,7 +36,8 @@ goes-on-requires c κs = search needs
 -- a line is read where there is one, with room
 going : (c : tie.Then1 Inv-loop μ-loop)
     → let loop = c .before .before .loop in
-    (loop .next < length (c .before .before .before .before .before .args .text .now)) × (loop .written + lineRoom ≤ length (loop .out))
+    (loop .place < length (c .before .before .before .before .before .args .text .now))
+    × (loop .written + lineRoom ≤ length (loop .out))
 going c = on (c .before .before .before .before .before .args .text .now) _ _ _ (c .before .goes-on .ensures) (c .if1 .taken)
 
 line-requires : tie.Need-line-requires Inv-loop μ-loop
@@ -52,8 +54,12 @@ loop-less c =
 loop-again : tie.Need-loop-again Inv-loop μ-loop
 loop-again c =
     let line = c .before .before .before .line .ensures in
-    let before = c .before .before .before .before .before .before .before .before .before .before .before .loop .inv in
-    (search needs, walked-more (before .1) (line .0), omega (arith, before .2, line .1), λ still. absurd (omega (arith, before .2, line .1)))
+    let before = c .before .before .before .before .before .before .before .before .before .before .before .loop .inv in (
+      search needs,
+      walked-more (before .1) (line .0),
+      omega (arith, before .2, line .1),
+      λ still. absurd (omega (arith, before .2, line .1)),
+    )
 
 same-length : tie.Need-same-length Inv-loop μ-loop
 same-length c = search needs

@@ -13,11 +13,13 @@ use Rattle.slots.proofs.write_pieces.Statement.{statement}
 use Rattle.slots.proofs.write_pieces.Tie as tie
 
 abbrev Inv-loop : tie.InvT-loop
-Inv-loop text out₀ clients₀ handles₀ lengths₀ links₀ control₀ at₀ written₀ total₀ out clients handles lengths links control at written total =
+Inv-loop text out₀ clients₀ handles₀ lengths₀ links₀ control₀ at₀ written₀ total₀ out clients handles lengths links control at
+    written total =
     (length out ≡ length out₀) × Counted text out control (tables clients handles lengths links) at written total
 
 abbrev μ-loop : tie.MeasureT-loop
-μ-loop text out₀ clients₀ handles₀ lengths₀ links₀ control₀ at₀ written₀ total₀ out clients handles lengths links control at written total =
+μ-loop text out₀ clients₀ handles₀ lengths₀ links₀ control₀ at₀ written₀ total₀ out clients handles lengths links control at
+    written total =
     length text - at
 
 loop-holds : tie.Need-loop-holds Inv-loop μ-loop

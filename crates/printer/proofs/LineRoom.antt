@@ -1,4 +1,5 @@
--- What the test for room says of a line that is to be printed: with room it is written, and without it nothing is. Assumes nothing.
+-- What the test for room says of a line that is to be printed: with room it is written, and without it nothing is. Assumes
+-- nothing.
 use Prim.Native.Nat.{ℕ, _+_, _≤_}
 use native.Mathlib.Omega.{arith}
 use mathlib.Core.Path.{_≡_, refl, sym, _∙_}
