@@ -71,8 +71,8 @@ module _ {M : Type 1} (𝓤 : URA M) (H : Heap 𝓤) (A : Atoms 𝓤) (mem : Mem
   abbrev IsEnd : Contract 𝓤
   IsEnd = tripleOf 𝓤 H A is-end.signature (is-end.spec 𝓤 H A mem run)
 
-module _ {M : Type 1} (𝓤 : URA M) (H : Heap 𝓤) (A : Atoms 𝓤) (W : Given 𝓤 H A) (mem : Memory → SProp 𝓤) (run : Routine
-    → Fun 𝓤) (κ : Lft) (q : Share) (d : Reader) where
+module _ {M : Type 1} (𝓤 : URA M) (H : Heap 𝓤) (A : Atoms 𝓤) (W : Given 𝓤 H A) (mem : Memory → SProp 𝓤)
+    (run : Routine → Fun 𝓤) (κ : Lft) (q : Share) (d : Reader) where
   abbrev mach : Val
   mach = T′.lowered d
 
@@ -147,30 +147,36 @@ module _ {M : Type 1} (𝓤 : URA M) (H : Heap 𝓤) (A : Atoms 𝓤) (W : Given
     walk wt =
         qed W (raw (onEntry 𝓤 H A at-end.signature (κ, tt) (q, tt) (d, tt) (mach ∷ [], tt)) ∷ []) ∵
         enter ! C Λ code.function (mach ∷ []) _ $
+        -- a cell for each local, and the arguments into theirs
         alloc1 ! (λ l₀. alloc1 ! (λ l₁.
         alloc1 ! (λ l₂. alloc1 ! (λ l₃. alloc0 ! $ params1 ! $ pass1 ! (init ! 4 refl wt) $ pass0 ! $
+        -- a field of the reader is read
         assigns ! (of-opd ! (load ! (from ! (fld ! refl (stop !))) (look-in ! 4 (sub ! 0 refl (whole !))))) (from ! (stop !))
         (init ! 2 refl (tt, wt .1 .0)) $
         assigns ! (of-opd ! (load ! (from ! (fld ! refl (stop !))) (look-in ! 4 (sub ! 1 refl (whole !))))) (from ! (stop !))
         (init ! 0 refl (tt, wt .1 .1 .0)) $
         move ! (8 ∷ []) $ use1 W (raw (IsEnd 𝓤 H A mem run .pre to) ⊛ ‵ Own) (apart (wt .1 .1 .0 .fits)) $ split ! $
+        -- the call of `is_end`
         calls-at ! fm (IsEnd 𝓤 H A mem run) known to
         (and-then ! (load ! (from ! (stop !)) (look ! 4 refl))
         (and-then ! (load ! (from ! (stop !)) (look ! 2 refl)) (no-more !))) (λ u.
         use1 W (later (some (λ (r : Bool). ((‵ (flft κ q) ⊛ ‵ ftrue) ⊛ ‵ (bool .own r (u ∷ []))) ⊛ raw
         (ensured 𝓤 H A is-end.ended (is-end.clauses 𝓤 H A mem run) (κ, tt) (d .text, (d .at, tt)) tt r)))) (id⊢ 𝓤 _) $
         await ! tt $ pick ! (λ r.
+        -- what it ensures of its result
         split ! $ move ! (1 ∷ []) $ use1 W (raw (fact 𝓤 (r ≡ found))) (said r) $
         heard ! (r ≡ found) (λ e. split ! $ move ! (1 ∷ []) $
         -- [the result; the token; what the struct owns; _3; …; _2; …; _1; …; room for _0; …]
         peeks ! bool (Is bool) (shows 𝓤 H A bool) r (u ∷ []) (λ is.
+        -- the result goes into its local
         land ! (from ! (stop !)) (init ! 9 refl (bool-lawful 𝓤 H A W .typed r _ is .0)) $
+        -- the function's result, and the cells are freed
         returns ! (look ! 9 refl) $ forget ! 3 refl $ forget ! 5 refl $ forget ! 7 refl $ forget ! 9 refl $
         move ! (9 ∷ 10 ∷ []) $ free1 ! $ move ! (7 ∷ 8 ∷ []) $ free1 ! $ move ! (5 ∷ 6 ∷ []) $ free1 ! $ move ! (3 ∷ 4 ∷ []) $
         free1 ! $ free0 ! $ by ! (exits r u e)))))))))
 
-module _ {M : Type 1} (𝓤 : URA M) (H : Heap 𝓤) (A : Atoms 𝓤) (W : Given 𝓤 H A) (mem : Memory → SProp 𝓤) (run : Routine
-    → Fun 𝓤) where
+module _ {M : Type 1} (𝓤 : URA M) (H : Heap 𝓤) (A : Atoms 𝓤) (W : Given 𝓤 H A) (mem : Memory → SProp 𝓤)
+    (run : Routine → Fun 𝓤) where
   at-end-walks : (C : Calls 𝓤 H) (Λ : Loops 𝓤 H) → FmC 𝓤 H (W .laws) C → Triple 𝓤 (C #reader·is-end) (IsEnd 𝓤 H A mem run)
       → Walks 𝓤 H A at-end.ended stayed (WpFn 𝓤 H C Λ code.function) (at-end.clauses 𝓤 H A mem run)
   at-end-walks C Λ fm known = walked 𝓤 H A at-end.ended stayed (at-end.clauses 𝓤 H A mem run) (WpFn 𝓤 H C Λ code.function)
@@ -180,8 +186,8 @@ module _ {M : Type 1} (𝓤 : URA M) (H : Heap 𝓤) (A : Atoms 𝓤) (W : Given
       (walk 𝓤 H A W mem run (κs .0) (qs .0) (a .0) C Λ fm known
       (LL.lawful (T.the-type (namedLft 1 0 tt κs)) (T′.the-laws (namedLft 1 0 tt κs)) 𝓤 H A W .typed (a .0) _ (are .0) .0)))
 
-at-end-meets : {M : Type 1} (𝓤 : URA M) (H : Heap 𝓤) (A : Atoms 𝓤) (W : Given 𝓤 H A) (mem : Memory → SProp 𝓤) (run : Routine
-    → Fun 𝓤) (𝓣 : Tables 𝓤 H)
+at-end-meets : {M : Type 1} (𝓤 : URA M) (H : Heap 𝓤) (A : Atoms 𝓤) (W : Given 𝓤 H A) (mem : Memory → SProp 𝓤)
+    (run : Routine → Fun 𝓤) (𝓣 : Tables 𝓤 H)
     → Triple 𝓤 (𝓣 .C #reader·is-end) (IsEnd 𝓤 H A mem run)
     → Meets 𝓤 H A at-end.signature (WpFn 𝓤 H (𝓣 .C) (𝓣 .Λ) code.function) (at-end.spec 𝓤 H A mem run)
 at-end-meets 𝓤 H A W mem run 𝓣 known-end =

@@ -66,8 +66,8 @@ module _ {M : Type 1} (𝓤 : URA M) (H : Heap 𝓤) (A : Atoms 𝓤) (mem : Mem
   abbrev AtEnd : Contract 𝓤
   AtEnd = tripleOf 𝓤 H A at-end.signature (at-end.spec 𝓤 H A mem run)
 
-module _ {M : Type 1} (𝓤 : URA M) (H : Heap 𝓤) (A : Atoms 𝓤) (W : Given 𝓤 H A) (mem : Memory → SProp 𝓤) (run : Routine
-    → Fun 𝓤) (κ : Lft) (q : Share) (s : RefT (List ℕ)) (n : ℕ) (fits : n < 2 ^ 64) where
+module _ {M : Type 1} (𝓤 : URA M) (H : Heap 𝓤) (A : Atoms 𝓤) (W : Given 𝓤 H A) (mem : Memory → SProp 𝓤)
+    (run : Routine → Fun 𝓤) (κ : Lft) (q : Share) (s : RefT (List ℕ)) (n : ℕ) (fits : n < 2 ^ 64) where
   abbrev at : Vals ended.signature (κ, tt)
   at = (v s ∷ [], (vint w64 n ∷ [], tt))
 
@@ -109,23 +109,28 @@ module _ {M : Type 1} (𝓤 : URA M) (H : Heap 𝓤) (A : Atoms 𝓤) (W : Given
     walk p =
         let wt = shr-slice-lawful 𝓤 H A W (named 0) κ u8 .typed s (v s ∷ []) p .0 in
         qed W ((‵ (flft κ q) ⊛ ‵ ftrue) ∷ ‵ (Params κ s n) ∷ []) ∵ enter ! C Λ code.function (v s ∷ vint w64 n ∷ []) _ $
+        -- a cell for each local, and the arguments into theirs
         alloc1 ! (λ l₀. alloc1 ! (λ l₁.
         alloc1 ! (λ l₂. alloc1 ! (λ l₃. alloc1 ! (λ l₄. alloc0 ! $ params1 ! $ pass1 ! (init ! 6 refl wt) $
         pass1 ! (init ! 4 refl (tt, record { fits = fits })) $ pass0 ! $
         move ! (10 ∷ 11 ∷ []) $ use2 W (raw (New 𝓤 H A mem run .pre (to-new 𝓤 H A mem run W κ q s)) ⊛ ‵ (OwnText κ s))
         (goes-new 𝓤 H A mem run W κ q s n) $ split ! $
+        -- the call of `new`
         calls-at ! fm (New 𝓤 H A mem run) known-new (to-new 𝓤 H A mem run W κ q s)
         (and-then ! (load ! (from ! (stop !)) (look ! 8 refl)) (no-more !)) (λ u.
         use1 W (later (some (λ (r : Reader). ((‵ (flft κ q) ⊛ ‵ ftrue) ⊛ ‵ (B κ .own r (u ∷ []))) ⊛ raw
         (ensured 𝓤 H A new.ended (new.clauses 𝓤 H A mem run) (κ, tt) (s, tt) tt r)))) (id⊢ 𝓤 _) $ await ! tt $ pick ! (λ r.
+        -- what it ensures of its result
         split ! $ move ! (1 ∷ []) $ use1 W (raw (fact 𝓤 (Begins s r))) (new-said 𝓤 H A mem run W κ q s r) $
         heard ! (Begins s r) (λ e. split ! $ move ! (1 ∷ []) $
         rewrite ! 0 (λ (h : Reader). ‵ (B κ .own h (u ∷ []))) (is-begun s r e) refl $
         peeks ! (B κ) (Is (B κ)) (shows 𝓤 H A (B κ)) (begun s) (u ∷ []) (λ is.
+        -- the result goes into its local
         land ! (from ! (stop !)) (init ! 5 refl
         (LL.lawful (T.the-type (αᵉ κ)) (T′.the-laws (αᵉ κ)) 𝓤 H A W .typed (begun s) _ is .0)) $
         rewrite ! 5 (λ (w : Val). ‵ (fat fullShare (T′.mir erased) l₃ 0 w))
         (ap only (LL.tells (T.the-type (α κ)) (T′.the-laws (α κ)) (begun s) _ is)) refl $
+        -- the place is stored into its field
         -- [what the struct owns; the token; what text owns; room for _4; …; _3; …; _2; …; _1; …; room for _0; …]
         assigns ! (of-opd ! (load ! (from ! (stop !)) (look ! 7 refl))) (from ! (fld ! refl (stop !)))
         (store-in ! 5 (sub ! 1 refl (whole !)) (tt, record { fits = fits })) $
@@ -133,21 +138,25 @@ module _ {M : Type 1} (𝓤 : URA M) (H : Heap 𝓤) (A : Atoms 𝓤) (W : Given
         (init ! 3 refl (tt, (wt .1, (record { fits = fits }, tt)))) $
         use1 W (‵ (B κ .own (made s n) (T′.lowered (made s n) ∷ []))) (sets 𝓤 H A mem run W κ q s n fits u) $
         use2 W (raw (AtEnd 𝓤 H A mem run .pre to)) goes $
+        -- the call of `at_end`
         calls-at ! fm (AtEnd 𝓤 H A mem run) known to (and-then ! (load ! (from ! (stop !)) (look ! 2 refl)) (no-more !)) (λ u′.
         use1 W (later (some (λ (t : Bool). ((‵ (flft κ q) ⊛ ‵ ftrue) ⊛ ‵ (bool .own t (u′ ∷ []))) ⊛ raw
         (ensured 𝓤 H A at-end.ended (at-end.clauses 𝓤 H A mem run) (κ, tt) (made s n, tt) tt t)))) (id⊢ 𝓤 _) $ await ! tt $
         pick ! (λ t.
+        -- what it ensures of its result
         split ! $ move ! (1 ∷ []) $ use1 W (raw (fact 𝓤 (t ≡ found))) (said t) $
         heard ! (t ≡ found) (λ e′. split ! $ move ! (1 ∷ []) $
         -- [the result; the token; what text owns; _4; …; _3; …; _2; …; _1; …; room for _0; …]
         peeks ! bool (Is bool) (shows 𝓤 H A bool) t (u′ ∷ []) (λ is′.
+        -- the result goes into its local
         land ! (from ! (stop !)) (init ! 11 refl (bool-lawful 𝓤 H A W .typed t _ is′ .0)) $
+        -- the function's result, and the cells are freed
         returns ! (look ! 11 refl) $ forget ! 3 refl $ forget ! 5 refl $ forget ! 7 refl $ forget ! 9 refl $ forget ! 11 refl $
         move ! (11 ∷ 12 ∷ []) $ free1 ! $ move ! (9 ∷ 10 ∷ []) $ free1 ! $ move ! (7 ∷ 8 ∷ []) $ free1 ! $ move ! (5 ∷ 6 ∷ []) $
         free1 ! $ move ! (3 ∷ 4 ∷ []) $ free1 ! $ free0 ! $ by ! (exits t u′ e′))))))))))))))
 
-module _ {M : Type 1} (𝓤 : URA M) (H : Heap 𝓤) (A : Atoms 𝓤) (W : Given 𝓤 H A) (mem : Memory → SProp 𝓤) (run : Routine
-    → Fun 𝓤) where
+module _ {M : Type 1} (𝓤 : URA M) (H : Heap 𝓤) (A : Atoms 𝓤) (W : Given 𝓤 H A) (mem : Memory → SProp 𝓤)
+    (run : Routine → Fun 𝓤) where
   ended-walks : (C : Calls 𝓤 H) (Λ : Loops 𝓤 H) → FmC 𝓤 H (W .laws) C → Triple 𝓤 (C #reader·new) (New 𝓤 H A mem run)
       → Triple 𝓤 (C #reader·at-end) (AtEnd 𝓤 H A mem run)
       → Walks 𝓤 H A ended.ended stayed (WpFn 𝓤 H C Λ code.function) (ended.clauses 𝓤 H A mem run)
@@ -157,8 +166,8 @@ module _ {M : Type 1} (𝓤 : URA M) (H : Heap 𝓤) (A : Atoms 𝓤) (W : Given
       (λ κs qs bounds a g are. via 𝓤 _ (fst∗ 𝓤 _ (emp 𝓤))
       (walk 𝓤 H A W mem run (κs .0) (qs .0) (a .0) (a .1 .0) (are .1 .0 .1) C Λ fm known-new known (are .0)))
 
-ended-meets : {M : Type 1} (𝓤 : URA M) (H : Heap 𝓤) (A : Atoms 𝓤) (W : Given 𝓤 H A) (mem : Memory → SProp 𝓤) (run : Routine
-    → Fun 𝓤) (𝓣 : Tables 𝓤 H)
+ended-meets : {M : Type 1} (𝓤 : URA M) (H : Heap 𝓤) (A : Atoms 𝓤) (W : Given 𝓤 H A) (mem : Memory → SProp 𝓤)
+    (run : Routine → Fun 𝓤) (𝓣 : Tables 𝓤 H)
     → Triple 𝓤 (𝓣 .C #reader·new) (New 𝓤 H A mem run) → Triple 𝓤 (𝓣 .C #reader·at-end) (AtEnd 𝓤 H A mem run)
     → Meets 𝓤 H A ended.signature (WpFn 𝓤 H (𝓣 .C) (𝓣 .Λ) code.function) (ended.spec 𝓤 H A mem run)
 ended-meets 𝓤 H A W mem run 𝓣 known-new known =

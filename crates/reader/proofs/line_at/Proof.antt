@@ -88,8 +88,8 @@ module _ {M : Type 1} (𝓤 : URA M) (H : Heap 𝓤) (A : Atoms 𝓤) (mem : Mem
   abbrev Place : Contract 𝓤
   Place = tripleOf 𝓤 H A place.signature (place.spec 𝓤 H A mem run)
 
-module _ {M : Type 1} (𝓤 : URA M) (H : Heap 𝓤) (A : Atoms 𝓤) (W : Given 𝓤 H A) (at-mem : Memory → SProp 𝓤) (run : Routine
-    → Fun 𝓤) (κ : Lft) (q : Share) (s : RefT (List ℕ)) (n : ℕ) (fits : n < 2 ^ 64) where
+module _ {M : Type 1} (𝓤 : URA M) (H : Heap 𝓤) (A : Atoms 𝓤) (W : Given 𝓤 H A) (at-mem : Memory → SProp 𝓤)
+    (run : Routine → Fun 𝓤) (κ : Lft) (q : Share) (s : RefT (List ℕ)) (n : ℕ) (fits : n < 2 ^ 64) where
   abbrev at : Vals line-at.signature (κ, tt)
   at = (v s ∷ [], (vint w64 n ∷ [], tt))
 
@@ -186,6 +186,7 @@ module _ {M : Type 1} (𝓤 : URA M) (H : Heap 𝓤) (A : Atoms 𝓤) (W : Given
     walk p =
         let wt = shr-slice-lawful 𝓤 H A W (named 0) κ u8 .typed s (v s ∷ []) p .0 in
         qed W ((‵ (flft κ q) ⊛ ‵ ftrue) ∷ ‵ (Params κ s n) ∷ []) ∵ enter ! C Λ code.function (v s ∷ vint w64 n ∷ []) _ $
+        -- a cell for each local, and the arguments into theirs
         alloc1 ! (λ l₀. alloc1 ! (λ l₁.
         alloc1 ! (λ l₂. alloc1 ! (λ l₃.
         alloc1 ! (λ l₄. alloc1 ! (λ l₅.
@@ -193,14 +194,17 @@ module _ {M : Type 1} (𝓤 : URA M) (H : Heap 𝓤) (A : Atoms 𝓤) (W : Given
         pass1 ! (init ! 10 refl (tt, record { fits = fits })) $ pass0 ! $
         move ! (16 ∷ 17 ∷ []) $ use2 W (raw (New 𝓤 H A at-mem run .pre (to-new 𝓤 H A at-mem run W κ q s)) ⊛ ‵ (OwnText κ s))
         (goes-new 𝓤 H A at-mem run W κ q s n) $ split ! $
+        -- the call of `new`
         calls-at ! fm (New 𝓤 H A at-mem run) known-new (to-new 𝓤 H A at-mem run W κ q s)
         (and-then ! (load ! (from ! (stop !)) (look ! 14 refl)) (no-more !)) (λ u.
         use1 W (later (some (λ (r : Reader). ((‵ (flft κ q) ⊛ ‵ ftrue) ⊛ ‵ (B κ .own r (u ∷ []))) ⊛ raw
         (ensured 𝓤 H A new.ended (new.clauses 𝓤 H A at-mem run) (κ, tt) (s, tt) tt r)))) (id⊢ 𝓤 _) $ await ! tt $ pick ! (λ r.
+        -- what it ensures of its result
         split ! $ move ! (1 ∷ []) $ use1 W (raw (fact 𝓤 (Begins s r))) (new-said 𝓤 H A at-mem run W κ q s r) $
         heard ! (Begins s r) (λ e. split ! $ move ! (1 ∷ []) $
         rewrite ! 0 (λ (h : Reader). ‵ (B κ .own h (u ∷ []))) (is-begun s r e) refl $
         peeks ! (B κ) (Is (B κ)) (shows 𝓤 H A (B κ)) (begun s) (u ∷ []) (λ is.
+        -- the result goes into its local
         -- [what the struct owns; the token; what text owns; _7; …; _6; …; _5; …; _4; …; _3; …; _2; …; _1; …; room for _0; …]
         land ! (from ! (stop !)) (init ! 7 refl
         (LL.lawful (T.the-type (αᵉ κ)) (T′.the-laws (αᵉ κ)) 𝓤 H A W .typed (begun s) _ is .0)) $
@@ -208,8 +212,10 @@ module _ {M : Type 1} (𝓤 : URA M) (H : Heap 𝓤) (A : Atoms 𝓤) (W : Given
         (ap only (LL.tells (T.the-type (α κ)) (T′.the-laws (α κ)) (begun s) _ is)) refl $
         assigns ! (of-opd ! (load ! (from ! (stop !)) (look ! 7 refl))) (from ! (stop !))
         (init ! 11 refl (tt, (wt .1, (record { fits = lit< tt }, tt)))) $
+        -- the place is stored into its field
         assigns ! (of-opd ! (load ! (from ! (stop !)) (look ! 13 refl))) (from ! (fld ! refl (stop !)))
         (store-in ! 11 (sub ! 1 refl (whole !)) (tt, record { fits = fits })) $
+        -- a reference to it is made
         assigns ! (addr ! (from ! (stop !))) (from ! (stop !)) (init ! 5 refl (tt, tt)) $
         -- the struct lies in its local, and is lent for a new lifetime within κ
         use1 W (‵ (B κ .own (made s n) (T′.lowered (made s n) ∷ []))) (sets 𝓤 H A at-mem run W κ q s n fits u) $
@@ -222,6 +228,7 @@ module _ {M : Type 1} (𝓤 : URA M) (H : Heap 𝓤) (A : Atoms 𝓤) (W : Given
         (flent (ν ∷ κ) (Body (mem (B κ)) l₃ 0 δ))))) (lends-ref 𝓤 H A W (B κ) (named 0) (ν ∷ κ) (made s n) l₃ 0) $
         await ! tt $ pick ! (λ δ. split ! $
         move ! (0 ∷ 2 ∷ 4 ∷ []) $ use3 W (raw (Next 𝓤 H A at-mem run .pre (to-next ν l₃ δ))) (goes-next ν l₃ δ) $
+        -- the call of `next`
         -- [what `next` asks; the lender's part; the way back to ν's token; …; what text owns; _7; …; _6; …; _5; …; _4; …; …;
         -- _2; …; _1; …; room for _0; …]
         calls-at ! fm (Next 𝓤 H A at-mem run) known-next (to-next ν l₃ δ)
@@ -237,6 +244,7 @@ module _ {M : Type 1} (𝓤 : URA M) (H : Heap 𝓤) (A : Atoms 𝓤) (W : Given
         -- [the result; the tokens; the last value; …; the lender's part; the way back; …; what text owns; _7; …; _6; …; _5; …;
         -- _4; …; …; _2; …; _1; …; room for _0; …]
         peeks ! usize (Is usize) (shows 𝓤 H A usize) end (u′ ∷ []) (λ is′.
+        -- the result goes into its local
         land ! (from ! (stop !)) (init ! 14 refl (uint-lawful 𝓤 H A W w64 .typed end _ is′ .0)) $
         rewrite ! 14 (λ (w : Val). ‵ (fat fullShare (tyInt w64) l₄ 0 w)) (ap only (is′ .0)) refl $ drop ! $
         -- the lifetime is ended, and the struct comes back at its last value
@@ -255,20 +263,25 @@ module _ {M : Type 1} (𝓤 : URA M) (H : Heap 𝓤) (A : Atoms 𝓤) (W : Given
         assigns ! (of-opd ! (load ! (from ! (stop !)) (look ! 1 refl))) (from ! (stop !))
         (store ! 10 refl (LL.lawful (T.the-type (αᵉ κ)) (T′.the-laws (αᵉ κ)) 𝓤 H A W .typed (ws .0) _ was .0)) $
         move ! (0 ∷ 2 ∷ []) $ use2 W (raw (Place 𝓤 H A at-mem run .pre (to-place (ws .0)))) (goes-place (ws .0)) $
+        -- the call of `place`
         calls-at ! fm (Place 𝓤 H A at-mem run) known-place (to-place (ws .0))
         (and-then ! (load ! (from ! (stop !)) (look ! 9 refl)) (no-more !)) (λ u″.
         use1 W (later (some (λ (m : ℕ). ((‵ (flft κ q) ⊛ ‵ ftrue) ⊛ ‵ (usize .own m (u″ ∷ []))) ⊛ raw
         (ensured 𝓤 H A place.ended (place.clauses 𝓤 H A at-mem run) (κ, tt) (ws .0, tt) tt m)))) (id⊢ 𝓤 _) $ await ! tt $
         pick ! (λ m.
+        -- what it ensures of its result
         split ! $ move ! (1 ∷ []) $ use1 W (raw (fact 𝓤 (m ≡ ws .0 .at))) (place-said (ws .0) m) $
         heard ! (m ≡ ws .0 .at) (λ e″. split ! $ move ! (1 ∷ []) $
         peeks ! usize (Is usize) (shows 𝓤 H A usize) m (u″ ∷ []) (λ is″.
+        -- the result goes into its local
         land ! (from ! (stop !)) (init ! 6 refl (uint-lawful 𝓤 H A W w64 .typed m _ is″ .0)) $
         rewrite ! 6 (λ (w : Val). ‵ (fat fullShare (tyInt w64) l₇ 0 w)) (ap only (is″ .0)) refl $ drop ! $
+        -- the struct is made of its fields
         -- [the token; _3; …; …; what text owns; _7; …; _6; …; _5; …; _4; …; …; _2; …; _1; …; room for _0; …]
         assigns ! (agg ! (and-then ! (load ! (from ! (stop !)) (look ! 11 refl))
         (and-then ! (load ! (from ! (stop !)) (look ! 5 refl)) (no-more !)))) (from ! (stop !))
         (init ! 18 refl (tt, (record { fits = is′ .1 }, (record { fits = is″ .1 }, tt)))) $
+        -- the function's result, and the cells are freed
         returns ! (look ! 18 refl) $ forget ! 1 refl $ forget ! 5 refl $ forget ! 7 refl $ forget ! 9 refl $ forget ! 11 refl $
         forget ! 14 refl $ forget ! 16 refl $ forget ! 18 refl $
         move ! (18 ∷ 19 ∷ []) $ free1 ! $ move ! (16 ∷ 17 ∷ []) $ free1 ! $ move ! (14 ∷ 15 ∷ []) $ free1 ! $
@@ -276,8 +289,8 @@ module _ {M : Type 1} (𝓤 : URA M) (H : Heap 𝓤) (A : Atoms 𝓤) (W : Given
         move ! (6 ∷ 7 ∷ []) $ free1 ! $ move ! (4 ∷ 5 ∷ []) $ free1 ! $ free0 ! $
         keep ! (0 ∷ 3 ∷ []) $ by ! (exits end m (ws .0) (is′ .1) (is″ .1) e′ e″)))))))))))))))))))))))))
 
-module _ {M : Type 1} (𝓤 : URA M) (H : Heap 𝓤) (A : Atoms 𝓤) (W : Given 𝓤 H A) (mem : Memory → SProp 𝓤) (run : Routine
-    → Fun 𝓤) where
+module _ {M : Type 1} (𝓤 : URA M) (H : Heap 𝓤) (A : Atoms 𝓤) (W : Given 𝓤 H A) (mem : Memory → SProp 𝓤)
+    (run : Routine → Fun 𝓤) where
   line-at-walks : (C : Calls 𝓤 H) (Λ : Loops 𝓤 H) → FmC 𝓤 H (W .laws) C → Triple 𝓤 (C #reader·new) (New 𝓤 H A mem run)
       → Triple 𝓤 (C #reader·next) (Next 𝓤 H A mem run) → Triple 𝓤 (C #reader·place) (Place 𝓤 H A mem run)
       → Walks 𝓤 H A line-at.ended stayed (WpFn 𝓤 H C Λ code.function) (line-at.clauses 𝓤 H A mem run)
@@ -287,8 +300,8 @@ module _ {M : Type 1} (𝓤 : URA M) (H : Heap 𝓤) (A : Atoms 𝓤) (W : Given
       (λ κs qs bounds a g are. via 𝓤 _ (fst∗ 𝓤 _ (emp 𝓤))
       (walk 𝓤 H A W mem run (κs .0) (qs .0) (a .0) (a .1 .0) (are .1 .0 .1) C Λ fm known-new known-next known-place (are .0)))
 
-line-at-meets : {M : Type 1} (𝓤 : URA M) (H : Heap 𝓤) (A : Atoms 𝓤) (W : Given 𝓤 H A) (mem : Memory → SProp 𝓤) (run : Routine
-    → Fun 𝓤) (𝓣 : Tables 𝓤 H)
+line-at-meets : {M : Type 1} (𝓤 : URA M) (H : Heap 𝓤) (A : Atoms 𝓤) (W : Given 𝓤 H A) (mem : Memory → SProp 𝓤)
+    (run : Routine → Fun 𝓤) (𝓣 : Tables 𝓤 H)
     → Triple 𝓤 (𝓣 .C #reader·new) (New 𝓤 H A mem run) → Triple 𝓤 (𝓣 .C #reader·next) (Next 𝓤 H A mem run)
     → Triple 𝓤 (𝓣 .C #reader·place) (Place 𝓤 H A mem run)
     → Meets 𝓤 H A line-at.signature (WpFn 𝓤 H (𝓣 .C) (𝓣 .Λ) code.function) (line-at.spec 𝓤 H A mem run)

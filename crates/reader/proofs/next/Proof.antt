@@ -88,8 +88,9 @@ module _ {M : Type 1} (𝓤 : URA M) (H : Heap 𝓤) (A : Atoms 𝓤) (mem : Mem
   abbrev AfterLine : Contract 𝓤
   AfterLine = tripleOf 𝓤 H A after-line.signature (after-line.spec 𝓤 H A mem run)
 
-module _ {M : Type 1} (𝓤 : URA M) (H : Heap 𝓤) (A : Atoms 𝓤) (W : Given 𝓤 H A) (at-mem : Memory → SProp 𝓤) (run : Routine
-    → Fun 𝓤) (κ κ′ : Lft) (q q′ : Share) (bounds : AllOutlive 2 (next.signature .outlives) (κ, (κ′, tt))) (b o : ℕ) (γ : GName)
+module _ {M : Type 1} (𝓤 : URA M) (H : Heap 𝓤) (A : Atoms 𝓤) (W : Given 𝓤 H A) (at-mem : Memory → SProp 𝓤)
+    (run : Routine → Fun 𝓤) (κ κ′ : Lft) (q q′ : Share) (bounds : AllOutlive 2 (next.signature .outlives) (κ, (κ′, tt)))
+    (b o : ℕ) (γ : GName)
     (h : Reader) where
   abbrev x : RefT Reader × Unit {0}
   x = (record { ptr = (b, o); name = γ; now = h }, tt)
@@ -189,15 +190,18 @@ module _ {M : Type 1} (𝓤 : URA M) (H : Heap 𝓤) (A : Atoms 𝓤) (W : Given
     walk =
         qed W ((‵ (flft κ q) ⊛ ‵ (flft κ′ q′) ⊛ ‵ ftrue) ∷ ‵ (owns (MutRef (named 0) κ (B κ′) ∷ []) x at) ∷ []) ∵
         enter ! C Λ code.function (vptr b o ∷ []) _ $
+        -- a cell for each local, and the arguments into theirs
         alloc1 ! (λ l₀. alloc1 ! (λ l₁.
         alloc1 ! (λ l₂. alloc1 ! (λ l₃. alloc1 ! (λ l₄. alloc0 ! $ params1 ! $ pass1 ! (init ! 6 refl (tt, tt)) $ pass0 ! $
         move ! (11 ∷ []) $ fsplit ! $ fsplit3 ! $ drop ! $ move ! (13 ∷ []) $ split ! $ move ! (2 ∷ 3 ∷ 0 ∷ []) $
+        -- the borrow of the reader is opened
         opens ! tt (B κ′) {h = h} b o (λ vs. spelt ! (B κ′) (Is (B κ′)) (shows 𝓤 H A (B κ′)) (LL.vals D L) (LL.tells D L)
         fullShare h vs b o $
         use1 W (‵ (fat fullShare (T′.mir erased) b o (T′.lowered h)))
         (W .laws .raw-at fullShare (T′.mir erased) b o (T′.lowered h)) $
         move ! (1 ∷ []) $ peeks ! (B κ′) (Is (B κ′)) (shows 𝓤 H A (B κ′)) h (T′.lowered h ∷ []) (λ was. let wt =
         LL.lawful D L 𝓤 H A W .typed h _ was .0 in
+        -- a field of the reader is read
         -- [what a Reader owns; the struct's cell; the open borrow; obs; auth; 'a's token; …; _4; …; _3; …; _2; …; _1; …; room
         -- for _0; …]
         assigns ! (of-opd ! (load ! (from ! (hop ! (look ! 13 refl) (fld ! refl (stop !))))
@@ -206,6 +210,7 @@ module _ {M : Type 1} (𝓤 : URA M) (H : Heap 𝓤) (A : Atoms 𝓤) (W : Given
         (look-in ! 1 (sub ! 1 refl (whole !))))) (from ! (stop !)) (init ! 7 refl (tt, wt .1 .1 .0)) $
         use1 W (‵ OwnText ⊛ ‵ OwnText ⊛ ‵ Own) apart $ split ! $ move ! (1 ∷ []) $ split ! $ move ! (0 ∷ 7 ∷ []) $
         use2 W (raw (LineEnd 𝓤 H A at-mem run .pre (to-end (h .at)))) (goes (h .at) (wt .1 .1 .0 .fits)) $
+        -- the call of `line_end`
         -- [what `line_end` asks; what a Reader owns; what text owns; the struct's cell; the open borrow; obs; auth; …; _4; …;
         -- _3; …; _2; …; _1; …; room for _0; …]
         calls-at ! fm (LineEnd 𝓤 H A at-mem run) known-end (to-end (h .at))
@@ -214,27 +219,34 @@ module _ {M : Type 1} (𝓤 : URA M) (H : Heap 𝓤) (A : Atoms 𝓤) (W : Given
         use1 W (later (some (λ (r : ℕ). ((‵ (flft κ′ q′) ⊛ ‵ ftrue) ⊛ ‵ (usize .own r (u ∷ []))) ⊛ raw
         (ensured 𝓤 H A line-end.ended (line-end.clauses 𝓤 H A at-mem run) (κ′, tt) (h .text, (h .at, tt)) tt r)))) (id⊢ 𝓤 _)
         $ await ! tt $ pick ! (λ r.
+        -- what it ensures of its result
         split ! $ move ! (1 ∷ []) $ use1 W (raw (fact 𝓤 (r ≡ lineEnd (now (h .text)) (h .at)))) (end-said r) $
         heard ! (r ≡ lineEnd (now (h .text)) (h .at)) (λ e. split ! $ move ! (1 ∷ []) $
         peeks ! usize (Is usize) (shows 𝓤 H A usize) r (u ∷ []) (λ is.
+        -- the result goes into its local
         land ! (from ! (stop !)) (init ! 13 refl (uint-lawful 𝓤 H A W w64 .typed r _ is .0)) $
         rewrite ! 13 (λ (w : Val). ‵ (fat fullShare (tyInt w64) l₂ 0 w)) (ap only (is .0)) refl $ drop ! $
+        -- a field of the reader is read
         -- [the token; what a Reader owns; what text owns; the struct's cell; the open borrow; obs; auth; …; _4; …; _3; …; _2;
         -- …; _1; …; room for _0; …]
         assigns ! (of-opd ! (load ! (from ! (hop ! (look ! 14 refl) (fld ! refl (stop !))))
         (look-in ! 3 (sub ! 0 refl (whole !))))) (from ! (stop !)) (store ! 10 refl (tt, wt .1 .0)) $
         move ! (2 ∷ 0 ∷ []) $ use2 W (raw (AfterLine 𝓤 H A at-mem run .pre (to-after r))) (goes r (is .1)) $
+        -- the call of `after_line`
         calls-at ! fm (AfterLine 𝓤 H A at-mem run) known-after (to-after r)
         (and-then ! (load ! (from ! (stop !)) (look ! 9 refl))
         (and-then ! (load ! (from ! (stop !)) (look ! 11 refl)) (no-more !))) (λ u′.
         use1 W (later (some (λ (m : ℕ). ((‵ (flft κ′ q′) ⊛ ‵ ftrue) ⊛ ‵ (usize .own m (u′ ∷ []))) ⊛ raw
         (ensured 𝓤 H A after-line.ended (after-line.clauses 𝓤 H A at-mem run) (κ′, tt) (h .text, (r, tt)) tt m)))) (id⊢ 𝓤 _)
         $ await ! tt $ pick ! (λ m.
+        -- what it ensures of its result
         split ! $ move ! (1 ∷ []) $ use1 W (raw (fact 𝓤 (m ≡ afterLine (now (h .text)) r))) (after-said r m) $
         heard ! (m ≡ afterLine (now (h .text)) r) (λ e′. split ! $ move ! (1 ∷ []) $
         peeks ! usize (Is usize) (shows 𝓤 H A usize) m (u′ ∷ []) (λ is′.
+        -- the result goes into its local
         land ! (from ! (stop !)) (store ! 8 refl (uint-lawful 𝓤 H A W w64 .typed m _ is′ .0)) $
         rewrite ! 8 (λ (w : Val). ‵ (fat fullShare (tyInt w64) l₄ 0 w)) (ap only (is′ .0)) refl $ drop ! $
+        -- the place is stored into its field
         -- [the token; what a Reader owns; the struct's cell; the open borrow; obs; auth; …; _4; …; _3; …; _2; …; _1; …; room
         -- for _0; …]
         assigns ! (of-opd ! (load ! (from ! (stop !)) (look ! 7 refl))) (from ! (hop ! (look ! 13 refl) (fld ! refl (stop !))))
@@ -244,14 +256,16 @@ module _ {M : Type 1} (𝓤 : URA M) (H : Heap 𝓤) (A : Atoms 𝓤) (W : Given
         move ! (1 ∷ []) $ use1 W (‵ (B κ′ .own (to m) (T′.lowered (to m) ∷ []))) (again m (is′ .1)) $
         move ! (2 ∷ []) $ use1 W (‵ (cellAt fullShare (B κ′ .mir) (T′.lowered (to m) ∷ []) b o))
         (W .laws .at-raw fullShare (T′.mir erased) b o (T′.lowered (to m))) $
+        -- the borrow is closed, at the reader's new place
         move ! (0 ∷ 1 ∷ 3 ∷ 4 ∷ 5 ∷ []) $ closes ! tt (B κ′) (to m) (T′.lowered (to m) ∷ []) b o $
+        -- the function's result, and the cells are freed
         returns ! (look ! 13 refl) $ forget ! 5 refl $ forget ! 7 refl $ forget ! 9 refl $ forget ! 11 refl $ forget ! 13 refl $
         move ! (13 ∷ 14 ∷ []) $ free1 ! $ move ! (11 ∷ 12 ∷ []) $ free1 ! $ move ! (9 ∷ 10 ∷ []) $ free1 ! $
         move ! (7 ∷ 8 ∷ []) $ free1 ! $ move ! (5 ∷ 6 ∷ []) $ free1 ! $ free0 ! $ keep ! (0 ∷ 1 ∷ 2 ∷ 3 ∷ []) $
         by ! (exits r m (is .1) e e′))))))))))))))))
 
-module _ {M : Type 1} (𝓤 : URA M) (H : Heap 𝓤) (A : Atoms 𝓤) (W : Given 𝓤 H A) (mem : Memory → SProp 𝓤) (run : Routine
-    → Fun 𝓤) where
+module _ {M : Type 1} (𝓤 : URA M) (H : Heap 𝓤) (A : Atoms 𝓤) (W : Given 𝓤 H A) (mem : Memory → SProp 𝓤)
+    (run : Routine → Fun 𝓤) where
   next-walks : (C : Calls 𝓤 H) (Λ : Loops 𝓤 H) → FmC 𝓤 H (W .laws) C → Triple 𝓤 (C #reader·line-end) (LineEnd 𝓤 H A mem run)
       → Triple 𝓤 (C #reader·after-line) (AfterLine 𝓤 H A mem run)
       → Walks 𝓤 H A next.ended stayed (WpFn 𝓤 H C Λ code.function) (next.clauses 𝓤 H A mem run)
@@ -262,8 +276,8 @@ module _ {M : Type 1} (𝓤 : URA M) (H : Heap 𝓤) (A : Atoms 𝓤) (W : Given
       (walk 𝓤 H A W mem run (κs .0) (κs .1 .0) (qs .0) (qs .1 .0) bounds (a .0 .ptr .0) (a .0 .ptr .1) (a .0 .name)
       (a .0 .now) C Λ fm known-end known-after))
 
-next-meets : {M : Type 1} (𝓤 : URA M) (H : Heap 𝓤) (A : Atoms 𝓤) (W : Given 𝓤 H A) (mem : Memory → SProp 𝓤) (run : Routine
-    → Fun 𝓤) (𝓣 : Tables 𝓤 H)
+next-meets : {M : Type 1} (𝓤 : URA M) (H : Heap 𝓤) (A : Atoms 𝓤) (W : Given 𝓤 H A) (mem : Memory → SProp 𝓤)
+    (run : Routine → Fun 𝓤) (𝓣 : Tables 𝓤 H)
     → Triple 𝓤 (𝓣 .C #reader·line-end) (LineEnd 𝓤 H A mem run) → Triple 𝓤 (𝓣 .C #reader·after-line) (AfterLine 𝓤 H A mem run)
     → Meets 𝓤 H A next.signature (WpFn 𝓤 H (𝓣 .C) (𝓣 .Λ) code.function) (next.spec 𝓤 H A mem run)
 next-meets 𝓤 H A W mem run 𝓣 known-end known-after =

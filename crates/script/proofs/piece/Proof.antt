@@ -15,7 +15,8 @@ use Rattle.script.proofs.piece.Statement.{statement}
 use Rattle.script.proofs.piece.Tie as tie
 
 abbrev Inv-loop : tie.InvT-loop
-Inv-loop text at out₀ clients₀ handles₀ lengths₀ links₀ core₀ place₀ written₀ out clients handles lengths links core place written =
+Inv-loop text at out₀ clients₀ handles₀ lengths₀ links₀ core₀ place₀ written₀ out clients handles lengths links core place
+    written =
     (length out ≡ length out₀)
     × Walked text at core₀ (tables clients₀ handles₀ lengths₀ links₀) [] out
     (record { control = core; next = place; written = written })
