@@ -20,10 +20,10 @@ module _ (before : List ℕ) (at : ℕ) {test : Bool} (asked : test ≡ leb (at 
   pub unwritten : (answer : Answer) → not test ≡ true → Printed answer before at before at
   unwritten answer taken =
       let none = leb-false (at + lineRoom) (length before) (sym asked ∙ not-true test taken) in
-      record { written = λ room. absurd (omega arith); untouched = λ little. (refl, refl); short = omega arith }
+      record { written = λ room. absurd (omega arith); untouched = λ little. (refl, refl) }
 
   pub wrote : (answer : Answer) {after : List ℕ} {end : ℕ} → not test ≡ false → Appended (printed answer) before at after end
-      → end ≤ at + lineRoom → Printed answer before at after end
-  wrote answer left a short =
+      → Printed answer before at after end
+  wrote answer left a =
       let room = roomy left in
-      record { written = λ fits. a; untouched = λ little. absurd (omega arith); short = short }
+      record { written = λ fits. a; untouched = λ little. absurd (omega arith) }

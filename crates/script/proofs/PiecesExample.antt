@@ -76,7 +76,6 @@ long text over =
     wrote = record {
       written = λ room. record { place = refl; room = omega arith; bytes = refl };
       untouched = λ little. absurd (omega arith);
-      short = omega arith;
     }
 
 -- ---- the example
