@@ -1,4 +1,4 @@
-// A script from its first byte to its last: each line is parsed, carried out and answered by one printed line.
+// A script in pieces: from a place on, each line is parsed, carried out and answered by one printed line.
 use definitions::Call;
 use grammar::Line;
 use order::LINKS;
