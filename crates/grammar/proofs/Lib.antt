@@ -4,7 +4,6 @@ pub mod Decimals
 pub mod ReadBack
 pub mod RoundTrip
 pub mod Lines
-pub mod Rooms
 pub mod Splits
 pub mod Sheets
 pub mod Examples

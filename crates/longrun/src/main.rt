@@ -4,8 +4,9 @@ use libc::STDERR_FILENO;
 use libc::STDOUT_FILENO;
 use order::LINKS;
 use parser::Word;
-use tables::CLIENTS;
+use tables::STOCKS;
 use tables::STORE;
+use tables::TERMS;
 ghost use mathlib.Core.Path.{_≡_};
 ghost use Prim.Native.Nat.{_*_};
 ghost use Rattle.runs.specs.LongRun.{block, after};
@@ -46,7 +47,8 @@ fn tell(seed: u32, blocks: u32, check: u32) -> bool
 fn blocks(
     seed: u32,
     count: u32,
-    clients: &mut [u32; CLIENTS],
+    terms: &mut [u32; TERMS],
+    stocks: &mut [u32; STOCKS],
     handles: &mut [u32; STORE],
     lengths: &mut [u32; STORE],
     links: &mut [u32; LINKS],
@@ -54,7 +56,7 @@ fn blocks(
     let mut at = runs::begin(seed);
     let mut done: u32 = 0;
     while done < count {
-        at = runs::calls(at, clients, handles, lengths, links, BLOCK);
+        at = runs::calls(at, terms, stocks, handles, lengths, links, BLOCK);
         done += 1;
         if !tell(seed, done, at.check) {
             return;
@@ -64,14 +66,16 @@ fn blocks(
 
 // A run on tables of its own.
 fn run(seed: u32, count: u32) {
-    let mut clients: [u32; CLIENTS] = [0; CLIENTS];
+    let mut terms: [u32; TERMS] = [0; TERMS];
+    let mut stocks: [u32; STOCKS] = [0; STOCKS];
     let mut handles: [u32; STORE] = [0; STORE];
     let mut lengths: [u32; STORE] = [0; STORE];
     let mut links: [u32; LINKS] = [0; LINKS];
     blocks(
         seed,
         count,
-        &mut clients,
+        &mut terms,
+        &mut stocks,
         &mut handles,
         &mut lengths,
         &mut links,

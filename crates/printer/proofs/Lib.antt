@@ -1,3 +1,3 @@
 pub mod Appending
-pub mod Filling
-pub mod Rooms
+pub mod FilledLength
+pub mod LineRoom

@@ -15,4 +15,3 @@ lineRoom = 64
 pub record Printed (answer : Answer) (before : List ℕ) (at : ℕ) (after : List ℕ) (end : ℕ) : Type 0 where
   pub written : at + lineRoom ≤ length before → Appended (printed answer) before at after end
   pub untouched : length before < at + lineRoom → (end ≡ at) × (after ≡ before)
-  pub short : end ≤ at + lineRoom

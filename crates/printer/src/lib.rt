@@ -18,7 +18,7 @@ const LINE_ROOM: usize = 64;
 const ZERO: u32 = 48;
 
 // Whether a line's room is left behind a place, with no sum that could wrap.
-fn has_room(size: usize, at: usize) -> bool
+pub fn has_room(size: usize, at: usize) -> bool
     ensures { λ r. ⌜ r ≡ leb (at + lineRoom) size ⌝ }
 {
     if size < LINE_ROOM {
@@ -113,7 +113,6 @@ fn put_real(out: &mut [u8], at: usize, id: u32, packet: Packet, padding: u32) ->
 fn put_slot(out: &mut [u8], at: usize, outcome: Outcome) -> usize
     requires { ⌜ at + lineRoom ≤ length (now out) ⌝ }
     ensures { λ r. ⌜ Appended (printed (Answer.Slot outcome)) (now (out .entry)) at (now (out .exit)) r ⌝ }
-    ensures { λ r. ⌜ r ≤ at + lineRoom ⌝ }
 {
     match outcome {
         Outcome::Real {

@@ -1,2 +1,2 @@
-pub mod Ends
-pub mod Set
+pub mod LineEnds
+pub mod ReaderAt

@@ -1,3 +1,3 @@
 -- The lines of a text, and the place of a reader.
-pub mod Lines
-pub mod Place
+pub mod LineSpans
+pub mod ReaderMoved

@@ -1,9 +1,9 @@
 // A reader: it walks a lent text line by line and remembers its place. The work is done by functions on a slice and a number;
-// those over the struct are thin, and public since the paper names this form. `line_at` and `ended` have plain parameters: whoever
-// calls them needs no struct that holds a reference.
+// those over the struct are thin, and public since the paper names this form. `line_at` and `ended` have plain parameters:
+// whoever calls them needs no struct that holds a reference.
 ghost use mathlib.Core.Path.{_≡_};
-ghost use Rattle.reader.specs.Lines.{lineEnd, afterLine, isEnd, spanAt};
-ghost use Rattle.reader.specs.Place.{moved};
+ghost use Rattle.reader.specs.LineSpans.{lineEnd, afterLine, isEnd, spanAt};
+ghost use Rattle.reader.specs.ReaderMoved.{moved};
 
 pub struct Reader<'a> {
     pub text: &'a [u8],

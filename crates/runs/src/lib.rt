@@ -6,9 +6,10 @@ use definitions::Packet;
 use generator::Generator;
 use grammar::Call;
 use order::LINKS;
-use tables::CLIENTS;
 use tables::Control;
+use tables::STOCKS;
 use tables::STORE;
+use tables::TERMS;
 ghost use mathlib.Core.Path.{_≡_};
 ghost use Rattle.tables.specs.Tables.{tables};
 ghost use Rattle.tables.specs.Invariant.{Valid};
@@ -150,15 +151,16 @@ pub fn begin(seed: u32) -> Progress
 // Makes one call.
 fn call_once(
     progress: Progress,
-    clients: &mut [u32; CLIENTS],
+    terms: &mut [u32; TERMS],
+    stocks: &mut [u32; STOCKS],
     handles: &mut [u32; STORE],
     lengths: &mut [u32; STORE],
     links: &mut [u32; LINKS],
 ) -> Progress
-    requires { ⌜ Valid (progress .control) (tables (now clients) (now handles) (now lengths) (now links)) ⌝ }
+    requires { ⌜ Valid (progress .control) (tables (now terms) (now stocks) (now handles) (now lengths) (now links)) ⌝ }
     ensures { λ r. ⌜ Goes 1 progress
-        (tables (now (clients .entry)) (now (handles .entry)) (now (lengths .entry)) (now (links .entry))) r
-        (tables (now (clients .exit)) (now (handles .exit)) (now (lengths .exit)) (now (links .exit))) ⌝ }
+        (tables (now (terms .entry)) (now (stocks .entry)) (now (handles .entry)) (now (lengths .entry)) (now (links .entry))) r
+        (tables (now (terms .exit)) (now (stocks .exit)) (now (handles .exit)) (now (lengths .exit)) (now (links .exit))) ⌝ }
 {
     let maker = progress.maker;
     let a = maker.step();
@@ -166,7 +168,15 @@ fn call_once(
     let c = b.step();
     let d = c.step();
     let call = call_of(a.value, b.value, c.value, d.value);
-    let answered = script::perform(progress.control, clients, handles, lengths, links, call);
+    let answered = script::perform(
+        progress.control,
+        terms,
+        stocks,
+        handles,
+        lengths,
+        links,
+        call,
+    );
     let control = answered.control;
     let answer = answered.answer;
     Progress {
@@ -179,21 +189,22 @@ fn call_once(
 // Makes so many calls.
 pub fn calls(
     progress: Progress,
-    clients: &mut [u32; CLIENTS],
+    terms: &mut [u32; TERMS],
+    stocks: &mut [u32; STOCKS],
     handles: &mut [u32; STORE],
     lengths: &mut [u32; STORE],
     links: &mut [u32; LINKS],
     count: u32,
 ) -> Progress
-    requires { ⌜ Valid (progress .control) (tables (now clients) (now handles) (now lengths) (now links)) ⌝ }
+    requires { ⌜ Valid (progress .control) (tables (now terms) (now stocks) (now handles) (now lengths) (now links)) ⌝ }
     ensures { λ r. ⌜ Goes count progress
-        (tables (now (clients .entry)) (now (handles .entry)) (now (lengths .entry)) (now (links .entry))) r
-        (tables (now (clients .exit)) (now (handles .exit)) (now (lengths .exit)) (now (links .exit))) ⌝ }
+        (tables (now (terms .entry)) (now (stocks .entry)) (now (handles .entry)) (now (lengths .entry)) (now (links .entry))) r
+        (tables (now (terms .exit)) (now (stocks .exit)) (now (handles .exit)) (now (lengths .exit)) (now (links .exit))) ⌝ }
 {
     let mut at = progress;
     let mut made: u32 = 0;
     while made < count {
-        at = call_once(at, clients, handles, lengths, links);
+        at = call_once(at, terms, stocks, handles, lengths, links);
         made += 1;
     }
     at

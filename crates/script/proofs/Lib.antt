@@ -1,3 +1,5 @@
-pub mod Steps
-pub mod Walks
-pub mod Wholes
+pub mod LinePrinted
+pub mod LineWalked
+pub mod GoingOn
+pub mod PiecesPrinted
+pub mod PiecesExample

@@ -1,34 +1,35 @@
-// A script from its first byte to its last: each line is parsed, carried out and answered by one printed line.
+// A script in pieces: from a place on, each line is parsed, carried out and answered by one printed line.
 use grammar::Call;
 use grammar::Line;
 use order::LINKS;
 use tables::Answered;
-use tables::CLIENTS;
 use tables::Control;
+use tables::STOCKS;
 use tables::STORE;
+use tables::TERMS;
 ghost use mathlib.Core.Path.{_≡_};
+ghost use mathlib.Core.Bool.{_&&_, not};
+ghost use lib.Dec.{leb};
 ghost use lib.ListN.{length, take};
-ghost use Prim.Native.Nat.{_≤_, _<_};
-ghost use mathlib.Core.List.{[]};
-ghost use Rattle.definitions.specs.State.{unopened};
+ghost use Prim.Native.Nat.{_+_, _≤_, _<_};
 ghost use Rattle.grammar.specs.Calls.{eventOf};
-ghost use Rattle.grammar.specs.Printout.{printedFrom};
+ghost use Rattle.printer.specs.Printed.{lineRoom};
+ghost use Rattle.reader.specs.LineSpans.{isEnd};
 ghost use Rattle.tables.specs.Tables.{tables};
 ghost use Rattle.tables.specs.Invariant.{Valid};
 ghost use Rattle.tables.specs.Promise.{Meets};
-ghost use Rattle.script.specs.Walk.{given, unreadNumber, Walking};
+ghost use Rattle.script.specs.UnreadLine.{unreadNumber};
+ghost use Rattle.script.specs.Pieces.{Walked, Piece, Start};
 
-// The longest text that is read, and the room that its printout may take.
+// The longest text that is read.
 pub const TEXT_LIMIT: usize = 60000;
-
-pub const OUT_ROOM: usize = 780064;
 
 // What bytes that are no form are answered with, and a text that is too long.
 const NO_FORM: u32 = 16;
 
 const TOO_LONG: u32 = 18;
 
-// How far the walk over a script has come.
+// How far a script was read: the control there, the place behind the last line, and how many bytes its answers took.
 pub struct Progress {
     pub control: Control,
     pub next: usize,
@@ -38,16 +39,17 @@ pub struct Progress {
 // Carries a call out.
 pub fn perform(
     control: Control,
-    clients: &mut [u32; CLIENTS],
+    terms: &mut [u32; TERMS],
+    stocks: &mut [u32; STOCKS],
     handles: &mut [u32; STORE],
     lengths: &mut [u32; STORE],
     links: &mut [u32; LINKS],
     call: Call,
 ) -> Answered
-    requires { ⌜ Valid control (tables (now clients) (now handles) (now lengths) (now links)) ⌝ }
+    requires { ⌜ Valid control (tables (now terms) (now stocks) (now handles) (now lengths) (now links)) ⌝ }
     ensures { λ r. ⌜ Meets (eventOf call) control
-        (tables (now (clients .entry)) (now (handles .entry)) (now (lengths .entry)) (now (links .entry))) r
-        (tables (now (clients .exit)) (now (handles .exit)) (now (lengths .exit)) (now (links .exit))) ⌝ }
+        (tables (now (terms .entry)) (now (stocks .entry)) (now (handles .entry)) (now (lengths .entry)) (now (links .entry))) r
+        (tables (now (terms .exit)) (now (stocks .exit)) (now (handles .exit)) (now (lengths .exit)) (now (links .exit))) ⌝ }
 {
     match call {
         Call::Open {
@@ -56,7 +58,8 @@ pub fn perform(
             seed,
         } => opening::open(
             control,
-            clients,
+            terms,
+            stocks,
             handles,
             lengths,
             links,
@@ -71,7 +74,8 @@ pub fn perform(
             burst,
         } => settings::join(
             control,
-            clients,
+            terms,
+            stocks,
             handles,
             lengths,
             links,
@@ -87,7 +91,8 @@ pub fn perform(
             burst,
         } => settings::change(
             control,
-            clients,
+            terms,
+            stocks,
             handles,
             lengths,
             links,
@@ -96,10 +101,11 @@ pub fn perform(
             rate,
             burst,
         ),
-        Call::Leave { id } => settings::leave(control, clients, handles, lengths, links, id),
+        Call::Leave { id } => settings::leave(control, terms, stocks, handles, lengths, links, id),
         Call::Load { id, dummies } => traffic::load(
             control,
-            clients,
+            terms,
+            stocks,
             handles,
             lengths,
             links,
@@ -108,14 +114,18 @@ pub fn perform(
         ),
         Call::Arrive { id, packet } => traffic::arrive(
             control,
-            clients,
+            terms,
+            stocks,
             handles,
             lengths,
             links,
             id,
             packet,
         ),
-        Call::Tick => slot::tick(control, clients, handles, lengths, links),
+        Call::Tick => {
+            let ticked = slot::tick(control, terms, stocks, handles, lengths, links);
+            ticked.answered
+        }
     }
 }
 
@@ -129,22 +139,25 @@ fn unread_number(read: Line) -> u32
     }
 }
 
-// One line: what it holds is carried out, or it is answered and skipped.
+// One line, for whose answer there is room: what it holds is carried out, or it is answered and skipped.
 fn line(
     text: &[u8],
     at: usize,
     out: &mut [u8],
     written: usize,
     control: Control,
-    clients: &mut [u32; CLIENTS],
+    terms: &mut [u32; TERMS],
+    stocks: &mut [u32; STOCKS],
     handles: &mut [u32; STORE],
     lengths: &mut [u32; STORE],
     links: &mut [u32; LINKS],
 ) -> Progress
-    requires { ⌜ Walking (now text) at (now out) written control (tables (now clients) (now handles) (now lengths) (now links))
-        × (at < length (now text)) ⌝ }
-    ensures { λ r. ⌜ Walking (now (text .entry)) (r .next) (now (out .exit)) (r .written) (r .control)
-        (tables (now (clients .exit)) (now (handles .exit)) (now (lengths .exit)) (now (links .exit))) × (at < r .next) ⌝ }
+    requires { ⌜ Valid control (tables (now terms) (now stocks) (now handles) (now lengths) (now links))
+        × (at < length (now text)) × (written + lineRoom ≤ length (now out)) ⌝ }
+    ensures { λ r. ⌜ Walked (now (text .entry)) at control
+        (tables (now (terms .entry)) (now (stocks .entry)) (now (handles .entry)) (now (lengths .entry)) (now (links .entry)))
+        (take written (now (out .entry))) (now (out .exit)) r
+        (tables (now (terms .exit)) (now (stocks .exit)) (now (handles .exit)) (now (lengths .exit)) (now (links .exit))) × (at < r .next) ⌝ }
 {
     let span = reader::line_at(text, at);
     let end = span.end;
@@ -167,7 +180,7 @@ fn line(
             written: more,
         };
     };
-    let answered = perform(control, clients, handles, lengths, links, call);
+    let answered = perform(control, terms, stocks, handles, lengths, links, call);
     let answer = answered.answer;
     let after = answered.control;
     let more = printer::print(out, written, answer);
@@ -178,65 +191,77 @@ fn line(
     }
 }
 
-// The lines of a text, from the first to the last; gives how many bytes they print.
-fn lines(
+// Whether a line stands at a place, and its answer has room behind what was written.
+fn goes_on(text: &[u8], at: usize, size: usize, written: usize) -> bool
+    ensures { λ r. ⌜ r ≡ (not (isEnd (now (text .entry)) at) && leb (written + lineRoom) size) ⌝ }
+{
+    if reader::ended(text, at) {
+        return false;
+    }
+    printer::has_room(size, written)
+}
+
+// Before the first piece: an unopened core at the first byte, or behind a text that is too long, whose one line is written.
+pub fn start(text: &[u8], out: &mut [u8]) -> Progress
+    ensures { λ r. ⌜ Start (now (text .entry)) (now (out .exit)) r ⌝ }
+{
+    let control = opening::unopened();
+    if text.len() > TEXT_LIMIT {
+        let written = printer::print_refused(out, 0, TOO_LONG);
+        return Progress {
+            control,
+            next: text.len(),
+            written,
+        };
+    }
+    Progress {
+        control,
+        next: 0,
+        written: 0,
+    }
+}
+
+// The lines from a place on whose answers have room, written from the start of the buffer.
+pub fn piece(
     text: &[u8],
+    at: usize,
     out: &mut [u8],
     control: Control,
-    clients: &mut [u32; CLIENTS],
+    terms: &mut [u32; TERMS],
+    stocks: &mut [u32; STOCKS],
     handles: &mut [u32; STORE],
     lengths: &mut [u32; STORE],
     links: &mut [u32; LINKS],
-) -> usize
-    requires { ⌜ Walking (now text) 0 (now out) 0 control (tables (now clients) (now handles) (now lengths) (now links)) ⌝ }
-    ensures { λ r. ⌜ (r ≤ length (now (out .exit)))
-        × (take r (now (out .exit)) ≡ printedFrom unopened [] (now (text .entry))) ⌝ }
+) -> Progress
+    requires { ⌜ Valid control (tables (now terms) (now stocks) (now handles) (now lengths) (now links)) ⌝ }
+    ensures { λ r. ⌜ Piece (now (text .entry)) at control
+        (tables (now (terms .entry)) (now (stocks .entry)) (now (handles .entry)) (now (lengths .entry)) (now (links .entry)))
+        (now (out .exit)) r
+        (tables (now (terms .exit)) (now (stocks .exit)) (now (handles .exit)) (now (lengths .exit)) (now (links .exit))) ⌝ }
 {
     let mut core = control;
-    let mut at: usize = 0;
+    let mut place = at;
     let mut written: usize = 0;
-    while !reader::ended(text, at) {
+    while goes_on(text, place, out.len(), written) {
         let progress = line(
             text,
-            at,
+            place,
             out,
             written,
             core,
-            clients,
+            terms,
+            stocks,
             handles,
             lengths,
             links,
         );
         core = progress.control;
-        at = progress.next;
+        place = progress.next;
         written = progress.written;
     }
-    written
-}
-
-// The printout of a whole text, and how many bytes it has; nothing without the room that any text may need.
-pub fn run(text: &[u8], out: &mut [u8]) -> usize
-    ensures { λ r. ⌜ (r ≤ length (now (out .exit)))
-        × (take r (now (out .exit)) ≡ given (now (text .entry)) (length (now (out .entry)))) ⌝ }
-{
-    if out.len() < OUT_ROOM {
-        return 0;
+    Progress {
+        control: core,
+        next: place,
+        written,
     }
-    if text.len() > TEXT_LIMIT {
-        return printer::print_refused(out, 0, TOO_LONG);
-    }
-    let mut clients: [u32; CLIENTS] = [0; CLIENTS];
-    let mut handles: [u32; STORE] = [0; STORE];
-    let mut lengths: [u32; STORE] = [0; STORE];
-    let mut links: [u32; LINKS] = [0; LINKS];
-    let control = opening::unopened();
-    lines(
-        text,
-        out,
-        control,
-        &mut clients,
-        &mut handles,
-        &mut lengths,
-        &mut links,
-    )
 }

@@ -1,4 +1,5 @@
--- What reading gave, beside the room that was lent for it: bytes are counted from the room's start. Of a failed read nothing is said.
+-- What reading gave, beside the room that was lent for it: bytes are counted from the room's start. Of a failed read nothing is
+-- said.
 use mathlib.Core.List.{List}
 use Prim.Native.Nat.{ℕ}
 use Rattle.io.specs.Counts.{Counts}

@@ -2,9 +2,16 @@
 use libc::EINTR;
 use libc::STDIN_FILENO;
 use libc::STDOUT_FILENO;
-use script::OUT_ROOM;
-ghost use Rattle.slots.specs.Room.{Room};
+use order::LINKS;
+use script::Progress;
+use tables::STOCKS;
+use tables::STORE;
+use tables::TERMS;
+ghost use mathlib.Core.Path.{_≡_};
+ghost use lib.ListN.{length};
+ghost use Rattle.script.specs.Pieces.{Start};
 ghost use Rattle.slots.specs.Reading.{Within};
+ghost use Rattle.slots.specs.Writing.{pieceRoom, HandedOn};
 
 // How often a read is tried that a signal interrupts each time.
 const TRIES: u32 = 1000000;
@@ -15,15 +22,14 @@ enum Reading {
     Failed,
 }
 
-// Room for any printout. The contract gives only the length, which is all that lending it needs.
-fn out_room() -> [u8; OUT_ROOM]
-    ensures { λ r. ⌜ Room r ⌝ }
-{
-    [0; OUT_ROOM]
+// What writing gave: so many bytes handed on, or a write that failed.
+enum Writing {
+    Bytes(usize),
+    Failed,
 }
 
-// One read into the room; no bytes are the end of the input. What the read gave tells whether it failed, and errno is asked only of
-// one that did. A read that a signal interrupted, before it gave a byte, is tried again.
+// One read into the room; no bytes are the end of the input. What the read gave tells whether it failed, and errno is asked
+// only of one that did. A read that a signal interrupted, before it gave a byte, is tried again.
 fn read_some(room: &mut [u8]) -> Reading
     ensures { λ r. ⌜ Within r (now (room .exit)) ⌝ }
 {
@@ -59,18 +65,82 @@ fn read_text(room: &mut [u8]) -> Reading
     Reading::Bytes(length)
 }
 
+// Writes what the start of a script left in the buffer, and piece by piece what is behind it, to the end of the text or a write
+// that fails.
+fn write_pieces(
+    text: &[u8],
+    out: &mut [u8],
+    first: Progress,
+    terms: &mut [u32; TERMS],
+    stocks: &mut [u32; STOCKS],
+    handles: &mut [u32; STORE],
+    lengths: &mut [u32; STORE],
+    links: &mut [u32; LINKS],
+) -> Writing
+    requires { ⌜ Start (now text) (now out) first × (pieceRoom ≡ length (now out)) ⌝ }
+    ensures { λ r. ⌜ HandedOn r (now (text .entry)) ⌝ }
+{
+    let mut control = first.control;
+    let mut at = first.next;
+    let mut written = first.written;
+    let mut total = written;
+    while io::write_all(STDOUT_FILENO, &out[..written]) {
+        if at >= text.len() {
+            return Writing::Bytes(total);
+        }
+        let piece = script::piece(
+            text,
+            at,
+            out,
+            control,
+            terms,
+            stocks,
+            handles,
+            lengths,
+            links,
+        );
+        control = piece.control;
+        at = piece.next;
+        written = piece.written;
+        total += written;
+    }
+    Writing::Failed
+}
+
+// Writes the printout of a text, on tables of its own.
+fn write_printout(text: &[u8]) -> Writing
+    ensures { λ r. ⌜ HandedOn r (now (text .entry)) ⌝ }
+{
+    let mut terms: [u32; TERMS] = [0; TERMS];
+    let mut stocks: [u32; STOCKS] = [0; STOCKS];
+    let mut handles: [u32; STORE] = [0; STORE];
+    let mut lengths: [u32; STORE] = [0; STORE];
+    let mut links: [u32; LINKS] = [0; LINKS];
+    let mut out = io::buffer();
+    let first = script::start(text, &mut out);
+    write_pieces(
+        text,
+        &mut out,
+        first,
+        &mut terms,
+        &mut stocks,
+        &mut handles,
+        &mut lengths,
+        &mut links,
+    )
+}
+
 // The room for the text is more than the longest that is read, so that a longer one is seen to be longer. A program has no exit
 // status of its own to give; what cannot be read or written is told on standard error.
 fn main() {
     let mut text = io::large_buffer();
-    let mut out = out_room();
     let got = read_text(&mut text);
     let Reading::Bytes(length) = got else {
         os::fail(b"slots: standard input");
         return;
     };
-    let printed = script::run(&text[..length], &mut out);
-    if !io::write_all(STDOUT_FILENO, &out[..printed]) {
+    let put = write_printout(&text[..length]);
+    if let Writing::Failed = put {
         os::fail(b"slots: standard output");
     }
 }

@@ -11,11 +11,11 @@ use Rattle.longrun.proofs.blocks.Statement.{statement}
 use Rattle.longrun.proofs.blocks.Tie as tie
 
 abbrev Inv-loop : tie.InvT-loop
-Inv-loop seed count clients₀ handles₀ lengths₀ links₀ at₀ done₀ clients handles lengths links at done =
-    (done ≤ count) × Goes (done * block) at₀ (tables clients₀ handles₀ lengths₀ links₀) at (tables clients handles lengths links)
+Inv-loop seed count terms₀ stocks₀ handles₀ lengths₀ links₀ at₀ done₀ terms stocks handles lengths links at done =
+    (done ≤ count) × Goes (done * block) at₀ (tables terms₀ stocks₀ handles₀ lengths₀ links₀) at (tables terms stocks handles lengths links)
 
 abbrev μ-loop : tie.MeasureT-loop
-μ-loop seed count clients₀ handles₀ lengths₀ links₀ at₀ done₀ clients handles lengths links at done = count - done
+μ-loop seed count terms₀ stocks₀ handles₀ lengths₀ links₀ at₀ done₀ terms stocks handles lengths links at done = count - done
 
 begin-requires : tie.Need-begin-requires Inv-loop μ-loop
 begin-requires c κs = search needs

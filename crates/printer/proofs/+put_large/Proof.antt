@@ -47,15 +47,23 @@ module _ (t : ℕ) where
 
   put-large-requires : lts.Need-put-large-requires calls (given t) reads.Post
   put-large-requires c κs =
-      let start = c .before .before .before in
-      (omega (arith, start .pre .0, c .before .if1 .left), omega (arith, longer (start .args .n) (c .before .if1 .left), start .pre .1))
+      let start = c .before .before .before in (
+        omega (arith, start .pre .0, c .before .if1 .left),
+        omega (arith, longer (start .args .n) (c .before .if1 .left), start .pre .1),
+      )
 
   put-two-requires : lts.Need-put-two-requires calls (given t) reads.Post
   put-two-requires c κs =
       let call = c .before .before .before in
       let start = call .before .before .before .before in
       let written = call .put-large .ensures in
-      omega (arith, longer (start .args .n) (call .before .before .if1 .left), written .place, appended-length written, start .pre .1)
+      omega (
+        arith,
+        longer (start .args .n) (call .before .before .if1 .left),
+        written .place,
+        appended-length written,
+        start .pre .1,
+      )
 
   same-length-2 : lts.Need-same-length-2 calls (given t) reads.Post
   same-length-2 c = search needs

@@ -1,4 +1,5 @@
--- `printer::has_room` meets its contract: the difference is asked for where it is one, so it says what the sum would. Assumes nothing.
+-- `printer::has_room` meets its contract: the difference is asked for where it is one, so it says what the sum would. Assumes
+-- nothing.
 use Prim.Native.Nat.{ℕ, _+_, _-_, _≤_}
 use native.Mathlib.Omega.{arith}
 use mathlib.Core.Path.{_≡_, sym}

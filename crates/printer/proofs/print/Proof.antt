@@ -10,7 +10,7 @@ use Rattle.grammar.specs.Printout.{printed}
 use Rattle.printer.specs.Appended.{Appended}
 use Rattle.printer.specs.Printed.{lineRoom, Printed}
 use Rattle.printer.proofs.Appending.{appended-as}
-use Rattle.printer.proofs.Rooms.{roomy, unwritten, wrote}
+use Rattle.printer.proofs.LineRoom.{roomy, unwritten, wrote}
 use Rattle.printer.proofs.print.Statement.{statement}
 use Rattle.printer.proofs.print.Tie as tie
 
@@ -24,10 +24,10 @@ room c = roomy (start c .args .out .now) (start c .args .at) (c .before .has-roo
 shown : (c : tie.Else1) {after : List ℕ} {end : ℕ} →
     let args = start c .args in
     Appended (printed (args .answer)) (args .out .now) (args .at) after end
-    → end ≤ args .at + lineRoom → Printed (args .answer) (args .out .now) (args .at) after end
-shown c a short =
+    → Printed (args .answer) (args .out .now) (args .at) after end
+shown c a =
     let args = start c .args in
-    wrote (args .out .now) (args .at) (c .before .has-room .ensures) (args .answer) (c .if1 .left) a short
+    wrote (args .out .now) (args .at) (c .before .has-room .ensures) (args .answer) (c .if1 .left) a
 
 has-room-requires : tie.Need-has-room-requires
 has-room-requires c κs = search needs
@@ -66,7 +66,7 @@ unfolding printed
 returns-2 c =
     let arm = c .before .before .before .before .before in
     let written = c .before .before .put .ensures in
-    shown (arm .before .before) (appended-as (ap printed (arm .enum-told .given .1)) written) (omega (arith, written .place))
+    shown (arm .before .before) (appended-as (ap printed (arm .enum-told .given .1)) written)
 
 same-length-2 : tie.Need-same-length-2
 same-length-2 c = search needs
@@ -81,8 +81,7 @@ same-length-3 c = search needs
 returns-4 : tie.Need-returns-4
 returns-4 c =
     let arm = c .before .before .before .before .before in
-    let written = c .before .before .put-slot .ensures in
-    shown (arm .before .before) (appended-as (ap printed (arm .answer2 .given .1)) (written .0)) (written .1)
+    shown (arm .before .before) (appended-as (ap printed (arm .answer2 .given .1)) (c .before .before .put-slot .ensures))
 
 pub print-spec : {M : Type 1} → statement M
 print-spec =

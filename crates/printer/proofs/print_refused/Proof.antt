@@ -7,8 +7,8 @@ use Rattle.definitions.specs.declared.Answer.the-variants.{Refused}
 use Rattle.grammar.specs.Bytes.{bytes}
 use Rattle.grammar.specs.Templates.{filled}
 use Rattle.grammar.specs.Printout.{printed}
-use Rattle.printer.proofs.Filling.{Small, filled-room, filled-end}
-use Rattle.printer.proofs.Rooms.{roomy, unwritten, wrote}
+use Rattle.printer.proofs.FilledLength.{Small, filled-room}
+use Rattle.printer.proofs.LineRoom.{roomy, unwritten, wrote}
 use Rattle.printer.proofs.print_refused.Statement.{statement}
 use Rattle.printer.proofs.print_refused.Tie as tie
 
@@ -50,9 +50,8 @@ unfolding printed filled
 returns-2 c =
     let test = c .before .before .before .before .before .before in
     let start = test .before .before .before in
-    let written = c .before .before .put-between .ensures in
     wrote (start .args .out .now) (start .args .at) (test .before .has-room .ensures) (Refused (start .args .number))
-    (test .if1 .left) written (filled-end (bytes "(refused #)\n") (numbers start) (small start) (omega arith) written)
+    (test .if1 .left) (c .before .before .put-between .ensures)
 
 pub print-refused-spec : {M : Type 1} → statement M
 print-refused-spec =

@@ -1,4 +1,5 @@
--- `printer::put_number` meets its contract: the number goes on where the text ended, whichever way it is written. Assumes nothing.
+-- `printer::put_number` meets its contract: the number goes on where the text ended, whichever way it is written. Assumes
+-- nothing.
 use borrow.Author.Needs.{needs}
 use Rattle.grammar.specs.Numerals.{decimal}
 use Rattle.printer.proofs.Appending.{front-room, appended-room, appended-more}
@@ -27,14 +28,16 @@ same-length c = search needs
 
 returns : tie.Need-returns
 returns c =
-    appended-more (c .before .before .before .before .before .before .before .put .ensures) (c .before .before .put-small .ensures)
+    appended-more (c .before .before .before .before .before .before .before .put .ensures)
+    (c .before .before .put-small .ensures)
 
 same-length-2 : tie.Need-same-length-2
 same-length-2 c = search needs
 
 returns-2 : tie.Need-returns-2
 returns-2 c =
-    appended-more (c .before .before .before .before .before .before .before .put .ensures) (c .before .before .put-large .ensures)
+    appended-more (c .before .before .before .before .before .before .before .put .ensures)
+    (c .before .before .put-large .ensures)
 
 pub put-number-spec : {M : Type 1} → statement M
 put-number-spec =

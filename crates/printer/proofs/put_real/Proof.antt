@@ -59,7 +59,8 @@ handle-room c =
     appended-room (c .put-number2 .ensures) (behind-handle (call .before .before .before .before)) (id-room call)
 
 length-room : (c : tie.After-put-number3) →
-    let start = c .before .before .before .before .before .before .before .before .before .before .before .before .before .before in
+    let start = c .before .before .before .before .before .before .before .before .before .before .before .before .before
+    .before in
     c .put-number3 .result + length (padding-text start) ≤ length (c .put-number3 .last .0)
 length-room c =
     let call = c .before .before .before .before .before in

@@ -10,7 +10,7 @@ use Rattle.definitions.specs.declared.Answer.the-variants.{Slot}
 use Rattle.definitions.specs.Answers.{values}
 use Rattle.grammar.specs.Templates.{filled}
 use Rattle.grammar.specs.Printout.{printed}
-use Rattle.printer.proofs.Filling.{slot-room, slot-end}
+use Rattle.printer.proofs.FilledLength.{slot-room}
 use Rattle.printer.proofs.Appending.{appended-as}
 use Rattle.printer.proofs.put_slot.Statement.{statement}
 use Rattle.printer.proofs.put_slot.Tie as tie
@@ -73,10 +73,7 @@ returns : tie.Need-returns
 unfolding shown values
 returns c =
     let arm = c .before .before .before .before in
-    let written = c .before .before .put-real .ensures in (
-      appended-as (ap shown (arm .before .outcome .given .1)) written,
-      slot-end (Real _ _ _) (omega (arith, arm .known-told .given)) written,
-    )
+    appended-as (ap shown (arm .before .outcome .given .1)) (c .before .before .put-real .ensures)
 
 same-length-2 : tie.Need-same-length-2
 same-length-2 c = search needs
@@ -85,10 +82,7 @@ returns-2 : tie.Need-returns-2
 unfolding shown printed values filled
 returns-2 c =
     let arm = c .before .before .before .before .before .before in
-    let written = c .before .before .put-between .ensures in (
-      appended-as (ap shown (arm .before .outcome2 .given .1)) written,
-      slot-end (Dummy _) (omega (arith, arm .known-told2 .given)) written,
-    )
+    appended-as (ap shown (arm .before .outcome2 .given .1)) (c .before .before .put-between .ensures)
 
 same-length-3 : tie.Need-same-length-3
 same-length-3 c = search needs
@@ -97,10 +91,7 @@ returns-3 : tie.Need-returns-3
 unfolding shown printed values filled
 returns-3 c =
     let arm = c .before .before .before .before .before .before in
-    let written = c .before .before .put-between2 .ensures in (
-      appended-as (ap shown (arm .before .outcome3 .given .1)) written,
-      slot-end (Idle _) (omega (arith, arm .known-told3 .given)) written,
-    )
+    appended-as (ap shown (arm .before .outcome3 .given .1)) (c .before .before .put-between2 .ensures)
 
 same-length-4 : tie.Need-same-length-4
 same-length-4 c = search needs
@@ -109,10 +100,7 @@ returns-4 : tie.Need-returns-4
 unfolding shown printed values filled
 returns-4 c =
     let arm = c .before .before .before .before .before in
-    let written = c .before .before .put .ensures in (
-      appended-as (ap shown (arm .enum-told .given .1)) written,
-      slot-end None tt written,
-    )
+    appended-as (ap shown (arm .enum-told .given .1)) (c .before .before .put .ensures)
 
 pub put-slot-spec : {M : Type 1} → statement M
 put-slot-spec =

@@ -1,4 +1,5 @@
--- `printer::put_small` meets its contract: a number below ten is one digit, and one below a hundred is its last two. Assumes nothing.
+-- `printer::put_small` meets its contract: a number below ten is one digit, and one below a hundred is its last two. Assumes
+-- nothing.
 use borrow.Author.Needs.{needs}
 use Prim.Native.Nat.{_+_, _/_, _%_}
 use native.Mathlib.Omega.{arith}

@@ -1,7 +1,7 @@
 -- `reader::after_line` meets its contract: the test says whether a line feed is passed. Assumes nothing.
 use native.Mathlib.Omega.{arith}
 use borrow.Author.Needs.{needs}
-use Rattle.reader.proofs.Ends.{after-line-feed, after-line-last}
+use Rattle.reader.proofs.LineEnds.{after-line-feed, after-line-last}
 use Rattle.reader.proofs.after_line.Statement.{statement}
 use Rattle.reader.proofs.after_line.Tie as tie
 

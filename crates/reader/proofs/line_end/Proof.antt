@@ -4,8 +4,8 @@ use mathlib.Core.Path.{_≡_, refl, sym, _∙_}
 use Prim.Native.Nat.{_-_}
 use lib.ListN.{length}
 use borrow.Author.Needs.{needs}
-use Rattle.reader.specs.Lines.{lineEnd}
-use Rattle.reader.proofs.Ends.{end-last, end-feed, end-other}
+use Rattle.reader.specs.LineSpans.{lineEnd}
+use Rattle.reader.proofs.LineEnds.{end-last, end-feed, end-other}
 use Rattle.reader.proofs.line_end.Statement.{statement}
 use Rattle.reader.proofs.line_end.Tie as tie
 

@@ -10,11 +10,11 @@ use Rattle.runs.proofs.calls.Statement.{statement}
 use Rattle.runs.proofs.calls.Tie as tie
 
 abbrev Inv-loop : tie.InvT-loop
-Inv-loop clients₀ handles₀ lengths₀ links₀ count at₀ made₀ clients handles lengths links at made =
-    (made ≤ count) × Goes made at₀ (tables clients₀ handles₀ lengths₀ links₀) at (tables clients handles lengths links)
+Inv-loop terms₀ stocks₀ handles₀ lengths₀ links₀ count at₀ made₀ terms stocks handles lengths links at made =
+    (made ≤ count) × Goes made at₀ (tables terms₀ stocks₀ handles₀ lengths₀ links₀) at (tables terms stocks handles lengths links)
 
 abbrev μ-loop : tie.MeasureT-loop
-μ-loop clients₀ handles₀ lengths₀ links₀ count at₀ made₀ clients handles lengths links at made = count - made
+μ-loop terms₀ stocks₀ handles₀ lengths₀ links₀ count at₀ made₀ terms stocks handles lengths links at made = count - made
 
 loop-holds : tie.Need-loop-holds Inv-loop μ-loop
 loop-holds c = (search needs, goes-none _ _ (c .pre))

@@ -2,16 +2,18 @@
 use native.Mathlib.Omega.{arith}
 use mathlib.Core.Path.{sym, ap, _∙_}
 use Rattle.grammar.specs.declared.Line.the-variants.{Refused as Unread}
-use Rattle.script.specs.Walk.{unreadNumber}
-use Rattle.reader.specs.Lines.{LineEnd}
-use Rattle.reader.proofs.Ends.{span-end}
-use Rattle.script.proofs.Walks.{walk-open, walk-unread, walk-form}
+use Rattle.script.specs.UnreadLine.{unreadNumber}
+use Rattle.reader.specs.LineSpans.{LineEnd}
+use Rattle.reader.proofs.LineEnds.{span-end}
+use Rattle.script.proofs.LineWalked.{walked-open, walked-unread, walked-form}
 use borrow.Author.Needs.{needs}
 use Rattle.script.proofs.line.Statement.{statement}
 use Rattle.script.proofs.line.Tie as tie
 
 -- what holds where the line ends
-ends : (c : tie.After-line-at) → let start = c .before .before .before .args in LineEnd (start .text .now) (start .at) (c .line-at .result .end)
+ends : (c : tie.After-line-at)
+    → let start = c .before .before .before .args in
+    LineEnd (start .text .now) (start .at) (c .line-at .result .end)
 ends c = span-end _ _ _ (c .line-at .ensures) (omega arith)
 
 line-at-requires : tie.Need-line-at-requires
@@ -27,7 +29,8 @@ returns : tie.Need-returns
 returns c =
     let found = c .before .before .before .before .before in
     let start = found .before .before .before in
-    walk-open _ _ _ _ _ _ (start .pre .0) (start .pre .1) _ (found .line-at .ensures) _ _ (c .before .before .before .before .if1 .taken)
+    walked-open _ _ _ _ _ _ (start .pre .1) (start .pre .2) _ (found .line-at .ensures) (start .pre .0)
+    (c .before .before .before .before .if1 .taken)
     (c .before .before .print-refused .ensures)
 
 sub-parse : tie.Need-sub-parse
@@ -59,14 +62,16 @@ same-length-2 c = search needs
 
 returns-2 : tie.Need-returns-2
 returns-2 c =
-    let found = c .before .before .before .before .before .before .before .before .before .before in
+    let told = c .before .before .before .before .before in
+    let parsed = told .before .before in
+    let found = parsed .before .before .before in
     let start = found .before .before .before in
     let within = ends found .within in
-    let more = c .before .before .before .before .before .before .before .before .before .if1 .left in
-    let none = c .before .before .before .before .before .enum-told .given .1 in
-    walk-unread _ _ _ _ _ _ (start .pre .0) (start .pre .1) _ (found .line-at .ensures) (omega (arith, within)) _ _ _
-    (sym (c .before .before .before .before .before .before .before .parse .ensures) ∙ none ∙ ap Unread (sym (c .before .before .before .before .unread-number .ensures ∙ ap unreadNumber none)))
-    (c .before .before .print-refused2 .ensures)
+    let more = parsed .before .before .if1 .left in
+    let none = told .enum-told .given .1 in
+    let number = c .before .before .before .before .unread-number .ensures ∙ ap unreadNumber none in
+    walked-unread _ _ _ _ _ _ (start .pre .1) (start .pre .2) _ (found .line-at .ensures) (omega (arith, within)) _
+    (start .pre .0) (sym (parsed .parse .ensures) ∙ none ∙ ap Unread (sym number)) (c .before .before .print-refused2 .ensures)
 
 perform-requires : tie.Need-perform-requires
 perform-requires c κs = search needs
@@ -79,13 +84,15 @@ same-length-3 c = search needs
 
 returns-3 : tie.Need-returns-3
 returns-3 c =
-    let found = c .before .before .before .before .before .before .before .before .before .before .before .before .before .before .before .before in
+    let performed = c .before .before .before .before .before in
+    let read = performed .before .before .before .before .before .before in
+    let parsed = read .before .before in
+    let found = parsed .before .before .before in
     let start = found .before .before .before in
     let within = ends found .within in
-    let more = c .before .before .before .before .before .before .before .before .before .before .before .before .before .before .before .if1 .left in
-    walk-form _ _ _ _ _ _ (start .pre .0) (start .pre .1) _ (found .line-at .ensures) (omega (arith, within)) _ _ _
-    (sym (c .before .before .before .before .before .before .before .before .before .before .before .before .before .parse .ensures) ∙ c .before .before .before .before .before .before .before .before .before .before .before .read .given .1) _ _
-    (c .before .before .before .before .before .perform .ensures) (c .before .before .print .ensures)
+    let more = parsed .before .before .if1 .left in
+    walked-form _ _ _ _ _ _ (start .pre .1) (start .pre .2) _ (found .line-at .ensures) (omega (arith, within)) _
+    (sym (parsed .parse .ensures) ∙ read .read .given .1) _ _ (performed .perform .ensures) (c .before .before .print .ensures)
 
 pub line-spec : {M : Type 1} → statement M
 line-spec =

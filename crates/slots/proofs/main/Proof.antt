@@ -1,16 +1,11 @@
 -- `slots::main` meets its contract: what is lent is within the rooms. Assumes nothing.
-use mathlib.Core.Path.{sym, _∙_}
 use native.Mathlib.Omega.{arith}
-use lib.ListN.{length-take}
 use borrow.Author.Needs.{needs}
 use Rattle.slots.proofs.main.Statement.{statement}
 use Rattle.slots.proofs.main.Tie as tie
 
 large-buffer-requires : tie.Need-large-buffer-requires
 large-buffer-requires c κs = search needs
-
-out-room-requires : tie.Need-out-room-requires
-out-room-requires c κs = search needs
 
 slice-aggregate-read-text : tie.Need-slice-aggregate-read-text
 slice-aggregate-read-text c = search needs
@@ -37,31 +32,24 @@ array-share-prefix-text : tie.Need-array-share-prefix-text
 array-share-prefix-text c =
     let got = c .before in omega (arith, rw (got .got .given .1) at (got .before .before .before .read-text .ensures))
 
-slice-aggregate-run : tie.Need-slice-aggregate-run
-slice-aggregate-run c =
+slice-aggregate-write-printout : tie.Need-slice-aggregate-write-printout
+slice-aggregate-write-printout c =
     let got = c .before .before in (rw (got .got .given .1) at (got .before .before .before .read-text .ensures)) .1
 
-slice-aggregate-run-2 : tie.Need-slice-aggregate-run-2
-slice-aggregate-run-2 c = search needs
+write-printout-requires : tie.Need-write-printout-requires
+write-printout-requires c κs = search needs
 
-run-requires : tie.Need-run-requires
-run-requires c κs = search needs
-
-array-share-prefix-out : tie.Need-array-share-prefix-out
-array-share-prefix-out c = search needs
-
-slice-aggregate-write-all : tie.Need-slice-aggregate-write-all
-slice-aggregate-write-all c =
-    let run = c .before .before .run in sym (length-take (run .result) (run .last .1 .0) ∙ omega (arith, run .ensures .0))
-
-write-all-requires : tie.Need-write-all-requires
-write-all-requires c κs = search needs
+enum-told-2 : tie.Need-enum-told-2
+enum-told-2 c = search needs
 
 slice-aggregate-fail-2 : tie.Need-slice-aggregate-fail-2
 slice-aggregate-fail-2 c = search needs
 
 fail-requires-2 : tie.Need-fail-requires-2
 fail-requires-2 c κs = search needs
+
+enum-told-3 : tie.Need-enum-told-3
+enum-told-3 c = search needs
 
 returns-2 : tie.Need-returns-2
 returns-2 c = search needs
@@ -74,7 +62,6 @@ main-spec =
     tie.close
     (tie.spec
     large-buffer-requires
-    out-room-requires
     slice-aggregate-read-text
     read-text-requires
     enum-known-got
@@ -83,13 +70,11 @@ main-spec =
     fail-requires
     returns
     array-share-prefix-text
-    slice-aggregate-run
-    slice-aggregate-run-2
-    run-requires
-    array-share-prefix-out
-    slice-aggregate-write-all
-    write-all-requires
+    slice-aggregate-write-printout
+    write-printout-requires
+    enum-told-2
     slice-aggregate-fail-2
     fail-requires-2
+    enum-told-3
     returns-2
     returns-3)

@@ -1,5 +1,5 @@
--- `slots::read_some` meets its contract: a count is `io::count`'s. The loop's invariant: the room stays as long as it was. The measure
--- is how many tries are left. Assumes nothing.
+-- `slots::read_some` meets its contract: a count is `io::count`'s. The loop's invariant: the room stays as long as it was. The
+-- measure is how many tries are left. Assumes nothing.
 use mathlib.Core.Path.{_≡_}
 use lib.ListN.{length}
 use borrow.Author.Needs.{needs}

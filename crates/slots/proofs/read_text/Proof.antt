@@ -1,5 +1,5 @@
--- `slots::read_text` meets its contract: what was read lies within the room. The loop's invariant says so of the bytes read so far.
--- The measure is the room that is left. Assumes nothing.
+-- `slots::read_text` meets its contract: what was read lies within the room. The loop's invariant says so of the bytes read so
+-- far. The measure is the room that is left. Assumes nothing.
 use Prim.Native.Nat.{_≤_, _-_}
 use mathlib.Core.Path.{_≡_}
 use native.Mathlib.Omega.{arith}

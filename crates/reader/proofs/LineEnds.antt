@@ -12,7 +12,7 @@ use lib.Seq.{drop-cons, getD-drop}
 use borrow.Author.Tests.{eqb-true, eqb-false, eq-eqb, ne-eqb, lt-ltb, le-ltb}
 use Rattle.grammar.specs.Bytes.{lineFeed, Unbroken}
 use Rattle.reader.specs.declared.Span.{Span}
-use Rattle.reader.specs.Lines.{lineLength, lineEnd, afterLine, spanAt, LineEnd}
+use Rattle.reader.specs.LineSpans.{lineLength, lineEnd, afterLine, spanAt, LineEnd}
 
 -- ---- one byte further
 feed-first : (b : ℕ) (bs : List ℕ) → b ≡ lineFeed → lineLength (b ∷ bs) ≡ 0
@@ -59,7 +59,8 @@ record Cut (bs : List ℕ) (n : ℕ) : Type 0 where
   whole : Unbroken (take n bs)
   closed : n < length bs → getD bs n 0 ≡ lineFeed
 
-cut-first : (b : ℕ) (bs : List ℕ) (n : ℕ) → Cut bs n → (t : Bool) → eqb b lineFeed ≡ t → Cut (b ∷ bs) (elim t [ true ↦ 0 | false ↦ suc n ])
+cut-first : (b : ℕ) (bs : List ℕ) (n : ℕ) → Cut bs n → (t : Bool) → eqb b lineFeed ≡ t
+    → Cut (b ∷ bs) (elim t [ true ↦ 0 | false ↦ suc n ])
 cut-first b bs n c true e = record { short = omega arith; whole = tt; closed = λ inside. eqb-true b lineFeed e }
 cut-first b bs n c false e = record {
   short = omega arith;

@@ -1,4 +1,5 @@
--- What the test for room says of a line that is to be printed: with room it is written, and without it nothing is. Assumes nothing.
+-- What the test for room says of a line that is to be printed: with room it is written, and without it nothing is. Assumes
+-- nothing.
 use Prim.Native.Nat.{ℕ, _+_, _≤_}
 use native.Mathlib.Omega.{arith}
 use mathlib.Core.Path.{_≡_, refl, sym, _∙_}
@@ -19,10 +20,10 @@ module _ (before : List ℕ) (at : ℕ) {test : Bool} (asked : test ≡ leb (at 
   pub unwritten : (answer : Answer) → not test ≡ true → Printed answer before at before at
   unwritten answer taken =
       let none = leb-false (at + lineRoom) (length before) (sym asked ∙ not-true test taken) in
-      record { written = λ room. absurd (omega arith); untouched = λ little. (refl, refl); short = omega arith }
+      record { written = λ room. absurd (omega arith); untouched = λ little. (refl, refl) }
 
   pub wrote : (answer : Answer) {after : List ℕ} {end : ℕ} → not test ≡ false → Appended (printed answer) before at after end
-      → end ≤ at + lineRoom → Printed answer before at after end
-  wrote answer left a short =
+      → Printed answer before at after end
+  wrote answer left a =
       let room = roomy left in
-      record { written = λ fits. a; untouched = λ little. absurd (omega arith); short = short }
+      record { written = λ fits. a; untouched = λ little. absurd (omega arith) }

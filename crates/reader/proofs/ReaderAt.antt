@@ -78,15 +78,23 @@ module _ {M : Type 1} (𝓤 : URA M) (H : Heap 𝓤) (A : Atoms 𝓤) (mem : Mem
     abbrev pub to-new : New .Ghost
     to-new = (((κ, tt), (q, tt), tt, (s, tt), (v s ∷ [], tt)), tt)
 
-    pub goes-new : (n : ℕ) → ent 𝓤 (⋆ 𝓤 H A ((‵ (flft κ q) ⊛ ‵ ftrue) ∷ ‵ (Params κ s n) ∷ [])) (sep 𝓤 (New .pre to-new) (sem 𝓤 H A (OwnText κ s)))
+    pub goes-new : (n : ℕ) → ent 𝓤 (⋆ 𝓤 H A ((‵ (flft κ q) ⊛ ‵ ftrue) ∷ ‵ (Params κ s n) ∷ []))
+        (sep 𝓤 (New .pre to-new) (sem 𝓤 H A (OwnText κ s)))
     goes-new n =
         qed W ((‵ (flft κ q) ⊛ ‵ ftrue) ∷ ‵ (Params κ s n) ∷ []) ∵
-        move ! (1 ∷ []) $ fsplit ! $ move ! (1 ∷ []) $ drop ! $ use1 W (‵ (OwnText κ s) ⊛ ‵ (OwnText κ s)) (shr-slice-copy 𝓤 H A W (named 0) κ u8 .twice s (v s ∷ [])) $ split ! $
+        move ! (1 ∷ []) $ fsplit ! $ move ! (1 ∷ []) $ drop ! $
+        use1 W (‵ (OwnText κ s) ⊛ ‵ (OwnText κ s)) (shr-slice-copy 𝓤 H A W (named 0) κ u8 .twice s (v s ∷ [])) $ split ! $
         nothing ! $ move ! (1 ∷ 0 ∷ []) $ fjoin ! $ move ! (2 ∷ 0 ∷ []) $
-        use2 W (raw (New .pre to-new)) (qed W ((‵ (flft κ q) ⊛ ‵ ftrue) ∷ ‵ (owns (ShrSlice (named 0) κ u8 ∷ []) (s, tt) (v s ∷ [], tt)) ∷ []) ∵ join ! $ frame ! $ done !) $ frame ! $ done !
+        use2 W (raw (New .pre to-new)) (qed W
+        ((‵ (flft κ q) ⊛ ‵ ftrue) ∷ ‵ (owns (ShrSlice (named 0) κ u8 ∷ []) (s, tt) (v s ∷ [], tt)) ∷ []) ∵ join ! $
+        frame ! $ done !) $ frame ! $ done !
 
-    pub new-said : (r : Reader) → ent 𝓤 (ensured 𝓤 H A new.ended (new.clauses 𝓤 H A mem run) (κ, tt) (s, tt) tt r) (fact 𝓤 (Begins s r))
+    pub new-said : (r : Reader) → ent 𝓤 (ensured 𝓤 H A new.ended (new.clauses 𝓤 H A mem run) (κ, tt) (s, tt) tt r)
+        (fact 𝓤 (Begins s r))
     new-said r = exE 𝓤 _ (λ ws. snd∗ 𝓤 (sem 𝓤 H A (lasts new.ended (κ, tt) (s, tt) ws)) (fact 𝓤 (Begins s r)))
 
-    pub sets : (n : ℕ) → n < 2 ^ 64 → (u : Val) → ent 𝓤 (sem 𝓤 H A (B κ .own (begun s) (u ∷ []))) (sem 𝓤 H A (B κ .own (made s n) (T′.lowered (made s n) ∷ [])))
-    sets n fits u = qed W (‵ (B κ .own (begun s) (u ∷ [])) ∷ []) ∵ owned ! usize (Is usize) (uint-makes 𝓤 H A W w64) n _ (refl, fits) $ move ! (1 ∷ 0 ∷ []) $ by ! (own-put 𝓤 H A W (T.the-type (α κ)) (T′.the-laws (α κ)) 1 (s, (0, tt)) n u)
+    pub sets : (n : ℕ) → n < 2 ^ 64 → (u : Val)
+        → ent 𝓤 (sem 𝓤 H A (B κ .own (begun s) (u ∷ []))) (sem 𝓤 H A (B κ .own (made s n) (T′.lowered (made s n) ∷ [])))
+    sets n fits u = qed W (‵ (B κ .own (begun s) (u ∷ [])) ∷ []) ∵
+        owned ! usize (Is usize) (uint-makes 𝓤 H A W w64) n _ (refl, fits) $ move ! (1 ∷ 0 ∷ []) $
+        by ! (own-put 𝓤 H A W (T.the-type (α κ)) (T′.the-laws (α κ)) 1 (s, (0, tt)) n u)

@@ -14,7 +14,6 @@ use Rattle.grammar.specs.Templates.{isGap, filled}
 use Rattle.grammar.specs.Printout.{printed}
 use Rattle.grammar.proofs.Decimals.{decimal-length}
 use Rattle.grammar.proofs.ReadBack.{filled-byte, filled-gap}
-use Rattle.printer.specs.Appended.{Appended}
 use Rattle.printer.specs.Printed.{lineRoom}
 
 -- numbers of 32 bits have at most ten digits
@@ -41,10 +40,6 @@ module _ (template numbers : List ℕ) (small : Small numbers) (short : length t
   pub filled-room : (at : ℕ) {size : ℕ} → at + lineRoom ≤ size → at + length (filled template numbers) ≤ size
   filled-room at room = omega (arith, filled-length template numbers small)
 
-  pub filled-end : {before : List ℕ} {at : ℕ} {after : List ℕ} {end : ℕ}
-      → Appended (filled template numbers) before at after end → end ≤ at + lineRoom
-  filled-end a = omega (arith, filled-length template numbers small, a .place)
-
 -- so has the line of a slot
 pub slot-room : (outcome : Outcome) → Small (values outcome) → (at : ℕ) {size : ℕ} → at + lineRoom ≤ size
     → at + length (printed (Slot outcome)) ≤ size
@@ -53,7 +48,3 @@ slot-room (Real id packet padding) small at room = filled-room _ _ small (omega 
 slot-room (Dummy id) small at room = filled-room _ _ small (omega arith) at room
 slot-room (Idle id) small at room = filled-room _ _ small (omega arith) at room
 slot-room None small at room = filled-room _ _ small (omega arith) at room
-
-pub slot-end : (outcome : Outcome) → Small (values outcome) → {before : List ℕ} {at : ℕ} {after : List ℕ} {end : ℕ}
-    → Appended (printed (Slot outcome)) before at after end → end ≤ at + lineRoom
-slot-end outcome small {at = at} a = omega (arith, slot-room outcome small at {size = at + lineRoom} (omega arith), a .place)

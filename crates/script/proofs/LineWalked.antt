@@ -1,0 +1,109 @@
+-- What a line of the code leaves: the walk is one line further, whether its bytes were no line, held no form, or held a call that
+-- was carried out. Assumes nothing.
+use Prim.Native.Nat.{ℕ, suc, _+_, _-_, _≤_, _<_}
+use mathlib.Core.Path.{_≡_, refl, sym, ap, subst, _∙_}
+use mathlib.Core.List.{List, _++_}
+use native.Mathlib.Omega.{arith}
+use lib.ListN.{length, take, drop, length-drop}
+use lib.Seq.{take-all}
+use Rattle.grammar.specs.Calls.{eventOf}
+use Rattle.grammar.specs.declared.Call.{Call}
+use Rattle.definitions.specs.declared.Answer.{Answer}
+use Rattle.definitions.specs.declared.Answer.the-variants.{Refused}
+use Rattle.definitions.specs.State.{Core}
+use Rattle.definitions.specs.Checks.{Result, refused}
+use Rattle.definitions.specs.Core.{step}
+use Rattle.grammar.specs.declared.Line.{Line}
+use Rattle.grammar.specs.declared.Line.the-variants.{Form, Refused as Unread}
+use Rattle.grammar.specs.Bytes.{Unbroken}
+use Rattle.grammar.specs.Grammar.{parsed}
+use Rattle.grammar.specs.Printout.{printed, answered}
+use Rattle.printer.specs.Appended.{Appended}
+use Rattle.printer.specs.Printed.{lineRoom, Printed}
+use Rattle.printer.proofs.Appending.{appended-front, appended-length}
+use Rattle.tables.specs.declared.Control.{Control}
+use Rattle.tables.specs.declared.Answered.{Answered}
+use Rattle.tables.specs.Tables.{Tables}
+use Rattle.tables.specs.Meaning.{coreOf}
+use Rattle.tables.specs.Invariant.{Valid}
+use Rattle.tables.specs.Promise.{Meets}
+use Rattle.reader.specs.declared.Span.{Span}
+use Rattle.reader.specs.LineSpans.{between, spanAt, LineEnd}
+use Rattle.reader.proofs.LineEnds.{span-end, span-feed, span-last}
+use Rattle.script.specs.declared.Progress.{Progress}
+use Rattle.script.specs.Pieces.{ahead, Walked}
+use Rattle.script.proofs.LinePrinted.{closed-printed, open-printed}
+
+module _ (text : List ℕ) (at : ℕ) (out : List ℕ) (written : ℕ) (c : Control) (t : Tables)
+    (inside : at < length text) (room : written + lineRoom ≤ length out) (span : Span) (read : span ≡ spanAt text at) where
+  abbrev end : ℕ
+  end = span .end
+
+  -- where a line leads to
+  abbrev Further : List ℕ → ℕ → Control → Tables → Type 0
+  Further new more d u =
+      Walked text at c t (take written out) new (record { control = d; next = span .next; written = more }) u × (at < span .next)
+
+  l : LineEnd text at end
+  l = span-end text at span read (omega arith)
+
+  wrote : {answer : Answer} {new : List ℕ} {more : ℕ} → Printed answer out written new more
+      → Appended (printed answer) out written new more
+  wrote p = p .written room
+
+  further : {answer : Answer} {new : List ℕ} {more : ℕ} → Printed answer out written new more
+      → (d : Control) (u : Tables) (next : ℕ) → Valid d u → span .next ≡ next → at < next → next ≤ length text
+      → take more new ++ ahead (coreOf d u) text next ≡ take written out ++ ahead (coreOf c t) text at
+      → Further new more d u
+  further {new = new} {more} p d u next valid e forth within printed =
+      let a = wrote p in
+      let goal = take written out ++ ahead (coreOf c t) text at in (
+        record {
+          printed = subst (λ (n : ℕ). take more new ++ ahead (coreOf d u) text n ≡ goal) (sym e) printed;
+          fits = omega (arith, a .room, appended-length a);
+          within = λ before. omega (arith, e, within);
+          valid = valid;
+        },
+        omega (arith, e, forth),
+      )
+
+  -- bytes behind the last line feed
+  pub walked-open : {new : List ℕ} {more : ℕ} → Valid c t → end ≡ length text → Printed (Refused 16) out written new more
+      → Further new more c t
+  walked-open {new} {more} valid e p =
+      let whole = subst Unbroken (take-all (end - at) (drop at text) (omega (arith, length-drop at text, e))) (l .unbroken) in
+      further p c t (length text) valid (span-last text at span read (omega arith) ∙ e) inside (omega arith)
+      (open-printed (coreOf c t) text at (take written out) (take more new) inside whole (appended-front (wrote p)))
+
+  module _ (feed : end < length text) where
+    -- a closed line, by what it holds
+    closed : {new : List ℕ} {more : ℕ} {answer : Answer} → Printed answer out written new more
+        → (line : Line) → parsed (between text at end) ≡ line
+        → (d : Control) (u : Tables) → Valid d u
+        → answer ≡ answered (coreOf c t) line .answer
+        → coreOf d u ≡ answered (coreOf c t) line .core
+        → Further new more d u
+    closed {new} {more} p line held d u valid answer core =
+        let next =
+        closed-printed (coreOf c t) text at (take written out) (take more new) end (l .forth) feed (l .closed feed) (l .unbroken)
+        (appended-front (wrote p)
+        ∙ ap (λ (x : Answer). take written out ++ printed x)
+        (answer ∙ ap (λ (x : Line). answered (coreOf c t) x .answer) (sym held))) in
+        further p d u (suc end) valid (span-feed text at span read feed) (omega (arith, l .forth)) feed
+        (subst (λ (x : Core). take more new ++ ahead x text (suc end) ≡ take written out ++ ahead (coreOf c t) text at)
+        (ap (λ (x : Line). answered (coreOf c t) x .core) held ∙ sym core) next)
+
+    -- a line without a form
+    pub walked-unread : {new : List ℕ} {more : ℕ} (n : ℕ) → Valid c t → parsed (between text at end) ≡ Unread n
+        → Printed (Refused n) out written new more
+        → Further new more c t
+    unfolding answered
+    walked-unread n valid held p = closed p (Unread n) held c t valid refl refl
+
+    -- a line with a form
+    pub walked-form : {new : List ℕ} {more : ℕ} (call : Call) → parsed (between text at end) ≡ Form call
+        → (r : Answered) (u : Tables) → Meets (eventOf call) c t r u
+        → Printed (r .answer) out written new more
+        → Further new more (r .control) u
+    unfolding answered
+    walked-form call held r u m p = closed p (Form call) held (r .control) u (m .valid) (m .answer) (m .core)

@@ -1,0 +1,109 @@
+-- The pieces of a text are its printout: each equation puts what one piece wrote before what is ahead, so they chain, whatever
+-- the buffers' lengths. Assumes nothing.
+use Prim.Native.Nat.{ℕ, _+_, _≤_, _<_}
+use mathlib.Core.Path.{_≡_, refl, sym, ap, _∙_}
+use mathlib.Core.List.{List, [], _++_, append-assoc, append-nil}
+use native.Mathlib.Omega.{arith}
+use lib.ListN.{length, take}
+use borrow.Author.Tests.{lt-ltb, le-ltb}
+use Rattle.definitions.specs.declared.Answer.the-variants.{Refused}
+use Rattle.definitions.specs.State.{Core, unopened}
+use Rattle.definitions.proofs.Laws.Tests.{lt-cases}
+use Rattle.grammar.specs.Bytes.{textLimit}
+use Rattle.grammar.specs.Printout.{printed, printedFrom, printout}
+use Rattle.printer.specs.Printed.{lineRoom, Printed}
+use Rattle.printer.proofs.Appending.{appended-front, appended-length}
+use Rattle.tables.specs.declared.Control.{Control}
+use Rattle.tables.specs.Tables.{Tables}
+use Rattle.tables.specs.Meaning.{coreOf}
+use Rattle.tables.specs.Invariant.{Valid}
+use Rattle.script.specs.declared.Progress.{Progress}
+use Rattle.script.specs.Pieces.{ahead, Walked, Piece, Start, Written, started, piece, PiecesPrinted}
+use Rattle.script.proofs.LinePrinted.{ahead-none}
+
+-- ---- lines behind one another
+
+pub walked-none : (text : List ℕ) (at : ℕ) (c : Control) (t : Tables) (out : List ℕ) → Valid c t
+    → Walked text at c t [] out (record { control = c; next = at; written = 0 }) t
+walked-none text at c t out valid = record { printed = refl; fits = omega arith; within = λ here. here; valid = valid }
+
+pub walked-more : {text : List ℕ} {at : ℕ} {c : Control} {t : Tables} {before out : List ℕ} {r : Progress} {u : Tables}
+    {last : List ℕ}
+    {s : Progress} {v : Tables}
+    → Walked text at c t before out r u
+    → Walked text (r .next) (r .control) u (take (r .written) out) last s v
+    → Walked text at c t before last s v
+walked-more w more = record {
+  printed = more .printed ∙ w .printed;
+  fits = more .fits;
+  within = λ here. more .within (w .within here);
+  valid = more .valid;
+}
+
+-- a walk that stopped for want of lines or of room is a piece
+pub piece-done : {text : List ℕ} {at : ℕ} {c : Control} {t : Tables} {out : List ℕ} {r : Progress} {u : Tables}
+    → Walked text at c t [] out r u
+    → (r .next < length text → length out < r .written + lineRoom)
+    → (r .next ≤ at → r .written ≡ 0)
+    → Piece text at c t out r u
+piece-done {text} {at} {out = out} {r} w full still = record {
+  walked = w;
+  full = full;
+  onward = λ inside room.
+      lt-cases at (r .next) (λ forth. forth) (λ back. absurd (omega (arith, full (omega arith), still back)));
+}
+
+-- ---- before the first piece
+
+module _ (text : List ℕ) (c : Control) (new : (t : Tables) → (coreOf c t ≡ unopened) × Valid c t) where
+  pub start-read : (out : List ℕ) → length text ≤ textLimit → Start text out (record { control = c; next = 0; written = 0 })
+  unfolding printout
+  start-read out short = record {
+    printed = λ room. rw (printout, le-ltb textLimit (length text) short) refl;
+    bare = λ little. refl;
+    fits = omega arith;
+    within = omega arith;
+    read = λ more. short;
+    core = new;
+  }
+
+  pub start-long : (out last : List ℕ) (written : ℕ) → textLimit < length text → Printed (Refused 18) out 0 last written
+      → length last ≡ length out
+      → Start text last (record { control = c; next = length text; written = written })
+  unfolding printout
+  start-long out last written over p same = record {
+    printed = λ room.
+        ap (λ (l : List ℕ). take written last ++ l) (ahead-none unopened text (length text) (omega arith))
+        ∙ append-nil (take written last)
+        ∙ appended-front (p .written (omega arith))
+        ∙ rw (printout, lt-ltb textLimit (length text) over) refl;
+    bare = λ little. p .untouched (omega arith) .0;
+    fits = fits;
+    within = omega arith;
+    read = λ more. absurd (omega arith);
+    core = new;
+  }
+    where
+      fits : written ≤ length last
+      fits =
+          lt-cases (length out) lineRoom (λ little. omega (arith, p .untouched (omega arith) .0))
+          (λ room. omega (arith, p .written (omega arith) .room))
+
+-- ---- the theorem
+
+sofar : (text bytes : List ℕ) (at : ℕ) (c : Control) (t : Tables) → Written text bytes at c t
+    → bytes ++ ahead (coreOf c t) text at ≡ printout text
+sofar text _ _ _ t (started {out} {r} s room) =
+    ap (λ (x : Core). take (r .written) out ++ ahead x text (r .next)) (s .core t .0) ∙ s .printed room
+sofar text _ _ _ u (piece {bytes} {at} {c} {t} {out = out} {r} w p) =
+    append-assoc bytes (take (r .written) out) (ahead (coreOf (r .control) u) text (r .next))
+    ∙ ap (λ (l : List ℕ). bytes ++ l) (p .walked .printed)
+    ∙ sofar text bytes at c t w
+
+pub pieces-printed : PiecesPrinted
+pieces-printed = record {
+  sofar = sofar;
+  whole = λ text bytes at c t w past.
+      sym (append-nil bytes) ∙ ap (λ (l : List ℕ). bytes ++ l) (sym (ahead-none (coreOf c t) text at past))
+      ∙ sofar text bytes at c t w;
+}

@@ -1,0 +1,69 @@
+-- "Each line prints one line" (paper 01, "Script and printout"). The printout is written in pieces, each of whole lines, into
+-- buffers of any length. What a piece wrote, and behind it what the core after it prints for the rest of the text, is what the
+-- core before it prints for the text from its place on. `PiecesPrinted` says that the pieces, one behind the other, are the
+-- printout.
+use Prim.Native.Nat.{ℕ, _+_, _≤_, _<_}
+use mathlib.Core.Path.{_≡_}
+use mathlib.Core.List.{List, [], _++_}
+use lib.ListN.{length, take, drop}
+use Rattle.definitions.specs.State.{Core, unopened}
+use Rattle.grammar.specs.Bytes.{textLimit}
+use Rattle.grammar.specs.Printout.{printedFrom, printout}
+use Rattle.printer.specs.Printed.{lineRoom}
+use Rattle.tables.specs.declared.Control.{Control}
+use Rattle.tables.specs.Tables.{Tables}
+use Rattle.tables.specs.Meaning.{coreOf}
+use Rattle.tables.specs.Invariant.{Valid}
+use Rattle.script.specs.declared.Progress.{Progress}
+
+-- what a core prints for a text from a place on
+abbrev pub ahead : Core → List ℕ → ℕ → List ℕ
+ahead core text at = printedFrom core [] (drop at text)
+
+-- Lines from a place on were printed behind some bytes: control, place and number of bytes are then those of r, the tables are
+-- u, and the bytes stand in out.
+pub record Walked (text : List ℕ) (at : ℕ) (c : Control) (t : Tables) (before out : List ℕ) (r : Progress) (u : Tables) : Type 0
+  where
+    pub printed : take (r .written) out ++ ahead (coreOf (r .control) u) text (r .next) ≡ before ++ ahead (coreOf c t) text at
+    pub fits : r .written ≤ length out
+    pub within : at ≤ length text → r .next ≤ length text
+    pub valid : Valid (r .control) u
+
+-- A piece: the lines from a place on, until the text ends or the room for a line does; one at least, where both are there.
+pub record Piece (text : List ℕ) (at : ℕ) (c : Control) (t : Tables) (out : List ℕ) (r : Progress) (u : Tables) : Type 0 where
+  pub walked : Walked text at c t [] out r u
+  pub full : r .next < length text → length out < r .written + lineRoom
+  pub onward : at < length text → lineRoom ≤ length out → at < r .next
+
+-- Before the first piece: an unopened core at the first byte of the text. Of a "whole text over 60,000 bytes" its only line is
+-- written, for which there has to be room, and the place is behind the text.
+pub record Start (text out : List ℕ) (r : Progress) : Type 0 where
+  pub printed : lineRoom ≤ length out → take (r .written) out ++ ahead unopened text (r .next) ≡ printout text
+  pub bare : length out < lineRoom → r .written ≡ 0
+  pub fits : r .written ≤ length out
+  pub within : r .next ≤ length text
+  pub read : r .next < length text → length text ≤ textLimit
+  pub core : (t : Tables) → (coreOf (r .control) t ≡ unopened) × Valid (r .control) t
+
+-- Pieces one after the other, each in a buffer of its own: the bytes that were written, and the place, control and tables
+-- behind them.
+pub data Written (text : List ℕ) : List ℕ → ℕ → Control → Tables → Type 0 where
+  started : {out : List ℕ} {r : Progress} {t : Tables}
+      → Start text out r
+      → lineRoom ≤ length out
+      → Written text (take (r .written) out) (r .next) (r .control) t
+  piece : {bytes : List ℕ} {at : ℕ} {c : Control} {t u : Tables} {out : List ℕ} {r : Progress}
+      → Written text bytes at c t
+      → Piece text at c t out r u
+      → Written text (bytes ++ take (r .written) out) (r .next) (r .control) u
+
+-- Wherever the pieces have come, what was written with what is ahead is the printout; so at the end of the text it is the
+-- printout.
+pub record PiecesPrinted : Type 0 where
+  pub sofar : (text bytes : List ℕ) (at : ℕ) (c : Control) (t : Tables)
+      → Written text bytes at c t
+      → bytes ++ ahead (coreOf c t) text at ≡ printout text
+  pub whole : (text bytes : List ℕ) (at : ℕ) (c : Control) (t : Tables)
+      → Written text bytes at c t
+      → length text ≤ at
+      → bytes ≡ printout text
