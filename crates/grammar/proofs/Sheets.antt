@@ -23,7 +23,7 @@ use Rattle.grammar.specs.Calls.{eventOf}
 use Rattle.grammar.specs.Printout.{printed, answered, printedFrom, printout}
 use Rattle.grammar.specs.Lines.{lines, held, heard, toldFrom, told, printedLine, printedLines, LinesPrinted}
 use Rattle.grammar.specs.Sheet.{Sheet, sheet, noted, notedFrom, printedOf, SameLines, PrintsSame, SamenessOnPaper}
-use Rattle.grammar.proofs.Splits.{OneLine, closed-line, open-line, held-closed, held-open, printed-line}
+use Rattle.grammar.proofs.LineSplits.{OneLine, closed-line, open-line, held-closed, held-open, printed-line}
 
 -- ---- the printout falls into the lines that the history's calls print
 

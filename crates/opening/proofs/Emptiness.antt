@@ -22,8 +22,8 @@ use Rattle.definitions.proofs.Limits.{step-limits}
 use Rattle.marks.proofs.Bits.{marked-none}
 use Rattle.order.specs.Order.{sentinel, linkCount}
 use Rattle.order.specs.Owner.{owner, placesOf}
-use Rattle.order.proofs.Operations.{new-sound, new-ordered}
-use Rattle.order.proofs.Walk.{ordered-walked}
+use Rattle.order.proofs.PushAndUnlink.{new-sound, new-ordered}
+use Rattle.order.proofs.OrderWalk.{ordered-walked}
 use Rattle.tables.specs.declared.Control.{Control}
 use Rattle.tables.specs.declared.Answered.{Answered}
 use Rattle.tables.specs.Tables.{Tables, tables, field, ring}

@@ -1,5 +1,5 @@
--- The clients' table: what a store changes, and what it leaves. Two entries of the table are one only if they are the same
--- number of the same id. Assumes nothing.
+-- The fields of the ids in a table of columns: what a store changes, and what it leaves. Two entries are one only if they are
+-- the same column of the same id. Assumes nothing.
 use Prim.Native.Nat.{ℕ, zero, suc, _+_, _*_, _/_, _%_, _<_}
 use mathlib.Core.Path.{_≡_, refl, sym, ap, _∙_}
 use mathlib.Core.Logic.{_≢_}

@@ -29,7 +29,7 @@ use Rattle.tables.specs.Promise.{Meets}
 use Rattle.tables.proofs.Promises.{refused-with, opened, all-passed, sound-before, accepted-with}
 use Rattle.tables.proofs.Checkings.{arrives}
 use Rattle.tables.proofs.Fields.{OnlyAt, only-set, field-own}
-use Rattle.tables.proofs.Ring.{place-within, ring-free, queue-length}
+use Rattle.tables.proofs.QueueRing.{place-within, ring-free, queue-length}
 use Rattle.traffic.proofs.Arriving.{freePlace, place-own, arrivedTables, Counted, Lined}
 use Rattle.traffic.proofs.Arriving.{arrived-shape, arrived-state}
 

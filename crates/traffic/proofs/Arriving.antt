@@ -20,16 +20,16 @@ use Rattle.definitions.proofs.Laws.Rates.{held}
 use Rattle.marks.specs.Marks.{marked}
 use Rattle.order.specs.Order.{sentinel, Sound, Ordered, Absent}
 use Rattle.order.specs.Owner.{owner, placesOf}
-use Rattle.order.proofs.Lists.{all-map}
+use Rattle.order.proofs.DistinctLists.{all-map}
 use Rattle.order.proofs.Owner.{map-owner-append, placesOf-push-own, placesOf-push-other}
-use Rattle.order.proofs.Walk.{ordered-walked}
+use Rattle.order.proofs.OrderWalk.{ordered-walked}
 use Rattle.tables.specs.declared.Control.{Control}
 use Rattle.tables.specs.Tables.{Tables, tables, field, levelAt, headAt, countAt, ring}
 use Rattle.tables.specs.Meaning.{kindAt, packetAt, queueAt, clientAt, clientsOf, orderOf, stateOf, withWaiting}
 use Rattle.tables.specs.Invariant.{Shape}
 use Rattle.tables.specs.Numbers.{firstFailed, refusal}
 use Rattle.tables.proofs.Fields.{OnlyAt, place-owner}
-use Rattle.tables.proofs.Ring.{placeOf, place-within, ring-push, ring-free, packets-same, packets-append, queue-length}
+use Rattle.tables.proofs.QueueRing.{placeOf, place-within, ring-push, ring-free, packets-same, packets-append, queue-length}
 use Rattle.tables.proofs.Touch.{Touch, touch-clients, touch-shape, client-own, rates-kept}
 
 -- the checks behind 19, 4 and 5, over the tables

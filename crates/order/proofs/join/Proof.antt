@@ -4,7 +4,7 @@ use native.Mathlib.Omega.{arith}
 use mathlib.Core.Path.{refl}
 use borrow.Author.Needs.{needs}
 use Rattle.order.specs.Order.{joined}
-use Rattle.order.proofs.Table.{sentinel-value}
+use Rattle.order.proofs.JoinedLinks.{sentinel-value}
 use Rattle.order.proofs.join.Statement.{statement}
 use Rattle.order.proofs.join.Tie as tie
 

@@ -14,7 +14,7 @@ use Rattle.definitions.specs.Checks.{activeChecks, arriveChecks}
 use Rattle.tables.specs.Tables.{tables, field, levelAt, countAt}
 use Rattle.tables.specs.Meaning.{kindAt, stateOf, clientsOf, clientAt}
 use Rattle.tables.specs.Numbers.{firstFailed, refusal}
-use Rattle.tables.proofs.Marking.{kind-indifferent}
+use Rattle.tables.proofs.MarkedKinds.{kind-indifferent}
 use Rattle.traffic.proofs.Arriving.{arrive-rest}
 use Rattle.traffic.proofs.arrive_number.Statement.{statement}
 use Rattle.traffic.proofs.arrive_number.Tie as tie

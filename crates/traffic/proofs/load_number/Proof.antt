@@ -13,7 +13,7 @@ use Rattle.definitions.specs.Checks.{activeChecks, loadChecks}
 use Rattle.tables.specs.Tables.{field}
 use Rattle.tables.specs.Meaning.{kindAt, stateOf, clientsOf, clientAt}
 use Rattle.tables.specs.Numbers.{firstFailed, refusal}
-use Rattle.tables.proofs.Marking.{kind-indifferent}
+use Rattle.tables.proofs.MarkedKinds.{kind-indifferent}
 use Rattle.traffic.proofs.load_number.Statement.{statement}
 use Rattle.traffic.proofs.load_number.Tie as tie
 
