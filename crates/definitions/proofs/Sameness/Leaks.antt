@@ -56,7 +56,7 @@ idle-leaks claim =
 
 -- 2's packet is refused where 5's fill the store
 store-leaks : Sameness oneStore → ⊥
-unfolding computed places withArrive arriveIf roomInStore tokenLeft
+unfolding computed withArrive arriveIf roomInStore tokenLeft
 store-leaks claim =
     let own = Arrive 2 (record { handle = 7; length = 64 }) in
     let H = quiet then own in
