@@ -34,8 +34,8 @@ latestAnswer (entry ∷ entries) = getD (shown (entry .1)) 0 0
 
 -- what the claims below compute with
 unfoldable computed : Type 0
-unfolding everything Sameness kept isStruck indifferentAt indifferentBy answerAt dealingAt traceOf after log departure isTick names
-    withTick slotBy quiet busy latestPick latestAnswer
+unfolding everything Sameness kept isStruck indifferentAt indifferentBy answerAt dealingAt traceOf after log departure isTick
+    names withTick slotBy quiet busy latestPick latestAnswer
 computed = Unit {0}
 
 -- the slot is 5's where 5 waits, and nobody's where nobody waits
