@@ -365,7 +365,8 @@ pub extern "C" fn bench_run(
     if 64 < mode {
         return 0;
     }
-    let mut clients = [0; CLIENTS];
+    let mut terms = [0; TERMS];
+    let mut stocks = [0; STOCKS];
     let mut handles = [0; STORE];
     let mut lengths = [0; STORE];
     let mut links = [0; LINKS];

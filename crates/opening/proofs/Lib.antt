@@ -1,2 +1,3 @@
-pub mod Emptiness
-pub mod Opened
+pub mod EmptyTables
+pub mod OpenPromise
+pub mod Openings

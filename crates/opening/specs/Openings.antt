@@ -1,5 +1,5 @@
--- There are runs as crates/tables, Run, speaks of them: one before any call and, behind any run, a further one with an open, accepted
--- or refused. That any other call may follow is `CodeValid` there, with that call's contract.
+-- There are runs as crates/tables, Run, speaks of them: one before any call and, behind any run, a further one with an open,
+-- accepted or refused. That any other call may follow is `CodeValid` there, with that call's contract.
 use Prim.Native.Nat.{ℕ}
 use mathlib.Core.Path.{_≡_}
 use Rattle.definitions.specs.Event.{Open}

@@ -4,9 +4,10 @@ use generator::Generator;
 use order::END;
 use order::LINKS;
 use tables::Answered;
-use tables::CLIENTS;
 use tables::Control;
+use tables::STOCKS;
 use tables::STORE;
+use tables::TERMS;
 ghost use mathlib.Core.Path.{_≡_};
 ghost use Rattle.definitions.specs.Event.{Open};
 ghost use Rattle.definitions.specs.State.{unopened};
@@ -71,7 +72,8 @@ fn open_number(threshold: u32, discipline: u32, seed: u32) -> u32
 // Gives a core without clients, in place of any earlier one (paper 01, "Open"). Refused: 1, 2, 3.
 pub fn open(
     control: Control,
-    clients: &mut [u32; CLIENTS],
+    terms: &mut [u32; TERMS],
+    stocks: &mut [u32; STOCKS],
     handles: &mut [u32; STORE],
     lengths: &mut [u32; STORE],
     links: &mut [u32; LINKS],
@@ -79,16 +81,17 @@ pub fn open(
     discipline: u32,
     seed: u32,
 ) -> Answered
-    requires { ⌜ Valid control (tables (now clients) (now handles) (now lengths) (now links)) ⌝ }
+    requires { ⌜ Valid control (tables (now terms) (now stocks) (now handles) (now lengths) (now links)) ⌝ }
     ensures { λ r. ⌜ Meets (Open threshold discipline seed) control
-        (tables (now (clients .entry)) (now (handles .entry)) (now (lengths .entry)) (now (links .entry))) r
-        (tables (now (clients .exit)) (now (handles .exit)) (now (lengths .exit)) (now (links .exit))) ⌝ }
+        (tables (now (terms .entry)) (now (stocks .entry)) (now (handles .entry)) (now (lengths .entry)) (now (links .entry))) r
+        (tables (now (terms .exit)) (now (stocks .exit)) (now (handles .exit)) (now (lengths .exit)) (now (links .exit))) ⌝ }
 {
     let number = open_number(threshold, discipline, seed);
     if number != 0 {
         return tables::refused(control, number);
     }
-    *clients = [0; CLIENTS];
+    *terms = [0; TERMS];
+    *stocks = [0; STOCKS];
     *handles = [0; STORE];
     *lengths = [0; STORE];
     *links = [END; LINKS];

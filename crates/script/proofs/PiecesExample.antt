@@ -17,7 +17,7 @@ use Rattle.tables.specs.declared.Control.{Control}
 use Rattle.tables.specs.Tables.{Tables}
 use Rattle.tables.specs.Meaning.{coreOf}
 use Rattle.tables.specs.Invariant.{Valid}
-use Rattle.opening.proofs.Emptiness.{emptyControl, emptyTables}
+use Rattle.opening.proofs.EmptyTables.{emptyControl, emptyTables}
 use Rattle.tables.proofs.Promises.{coreOf-shut}
 use Rattle.script.specs.Pieces.{ahead, Start, Piece, Written, started, piece}
 use Rattle.script.specs.PiecesExample.{twoLines, buffer, progress, ThreePieces, PiecesExist}

@@ -26,7 +26,7 @@ use Rattle.tables.specs.Promise.{Meets}
 use Rattle.tables.proofs.Promises.{refused-with, opened, all-passed, sound-before, accepted-with}
 use Rattle.tables.proofs.Checkings.{joins}
 use Rattle.settings.specs.Writes.{Room, ratesAfter, withBare, Recast, Quiet, Withdrawn}
-use Rattle.settings.proofs.Rings.{order-without, withdrawn-none}
+use Rattle.settings.proofs.Withdrawing.{order-without, withdrawn-none}
 use Rattle.settings.proofs.Bounds.{Fitting, terms-fit, fitting-holds, room}
 use Rattle.settings.proofs.Emptying.{order-means, emptiedTables, emptied-by}
 use Rattle.settings.proofs.Placing.{placedTables, Placement, placed-shape, placed-opened, placed-state}

@@ -2,7 +2,7 @@
 pub mod Remarks
 pub mod Entries
 pub mod Rates
-pub mod Rings
+pub mod Withdrawing
 pub mod Emptying
 pub mod Placing
 pub mod Bounds

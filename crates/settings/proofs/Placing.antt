@@ -15,7 +15,7 @@ use Rattle.marks.specs.Marks.{marked}
 use Rattle.order.specs.Owner.{placesOf}
 use Rattle.tables.specs.declared.Control.{Control}
 use Rattle.tables.specs.Tables.{Tables, tables, rateColumn, burstColumn, levelColumn, field, countAt, ring}
-use Rattle.tables.specs.Controls.{withRates}
+use Rattle.tables.specs.Controls.{withRates, withMarks}
 use Rattle.tables.specs.Meaning.{kindAt, packetAt, queueAt, clientAt, clientsOf, stockAt, stocksOf, orderOf, sideOf, stateOf}
 use Rattle.tables.specs.Invariant.{Shape, SoundCore}
 use Rattle.tables.proofs.Touch.{Touch, touch-clients, touch-shape, waits-here}
@@ -121,8 +121,14 @@ module _ (c : Control) (t : Tables) (id kind rate burst : ℕ) (b : Control) (st
   placed-shape = touch-shape b u old d after id touch
 
   -- d has what c has, but for the rates and the marks
+  rest : d ≡ withMarks (withRates c (ratesAfter b (t .terms) id rate)) (d .indifferent) (d .private) (b .waiting)
+  rest =
+      p .cast .rest
+      ∙ ap (λ (x : Control). withMarks (withRates x (ratesAfter b (t .terms) id rate)) (d .indifferent) (d .private) (b .waiting))
+      (p .bare .rest)
+
   pub placed-opened : d .opened ≡ c .opened
-  placed-opened = ap (λ (x : Control). x .opened) (p .cast .rest) ∙ ap (λ (x : Control). x .opened) (p .bare .rest)
+  placed-opened = ap (λ (x : Control). x .opened) rest
 
   clients-after : clientsOf d after ≡ put (clientsOf c t) id (joining kind rate burst)
   clients-after =
@@ -137,8 +143,8 @@ module _ (c : Control) (t : Tables) (id kind rate burst : ℕ) (b : Control) (st
       ≡ updated (stateOf c t) (put (stateOf c t .clients) id (joining kind rate burst)) (emptied (stateOf c t .side) id)
   unfolding stateOf updated
   placed-state = λ i. record {
-    threshold = (ap (λ (x : Control). x .threshold) (p .cast .rest) ∙ ap (λ (x : Control). x .threshold) (p .bare .rest)) i;
-    discipline = (ap (λ (x : Control). x .discipline) (p .cast .rest) ∙ ap (λ (x : Control). x .discipline) (p .bare .rest)) i;
+    threshold = rest i .threshold;
+    discipline = rest i .discipline;
     clients = clients-after i;
     side = side-after i;
   }

@@ -35,15 +35,15 @@ levelColumn = 2
 abbrev pub termColumns : ℕ
 termColumns = 3
 
--- the columns of the stocks: pool, and where a queue begins and how many packets it has
-abbrev pub poolColumn : ℕ
-poolColumn = 0
-
+-- the columns of the stocks: where a queue begins and how many packets it has, and the pool
 abbrev pub headColumn : ℕ
-headColumn = 1
+headColumn = 0
 
 abbrev pub countColumn : ℕ
-countColumn = 2
+countColumn = 1
+
+abbrev pub poolColumn : ℕ
+poolColumn = 2
 
 abbrev pub stockColumns : ℕ
 stockColumns = 3

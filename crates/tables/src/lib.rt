@@ -38,14 +38,15 @@ pub const BURST: u32 = IDS;
 
 pub const LEVEL: u32 = 2 * IDS;
 
-// What a client has to send, its stock: pool, and where its queue begins and how many packets it has.
+// What a client has to send, its stock: where its queue begins and how many packets it has, and its pool. In this order an arrival takes the
+// fewest instructions.
 pub const STOCKS: usize = 3 * IDS as usize;
 
-pub const POOL: u32 = 0;
+pub const HEAD: u32 = 0;
 
-pub const HEAD: u32 = IDS;
+pub const COUNT: u32 = IDS;
 
-pub const COUNT: u32 = 2 * IDS;
+pub const POOL: u32 = 2 * IDS;
 
 // The places of the waiting packets.
 pub const STORE: usize = (IDS * PLACES) as usize;

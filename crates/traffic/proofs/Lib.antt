@@ -1,3 +1,4 @@
-pub mod Pooling
-pub mod Arriving
-pub mod Arrivals
+pub mod ActiveChecks
+pub mod LoadPromise
+pub mod ArrivedTables
+pub mod ArrivePromise

@@ -8,30 +8,30 @@ use definitions::SHARES;
 use definitions::SHORTEST;
 use order::LINKS;
 use tables::Answered;
-use tables::CLIENTS;
 use tables::COUNT;
 use tables::Control;
 use tables::HEAD;
 use tables::LEVEL;
 use tables::POOL;
+use tables::STOCKS;
 use tables::STORE;
+use tables::TERMS;
 use tables::UNOPENED;
 ghost use mathlib.Core.Path.{_≡_};
-ghost use mathlib.Core.List.{List};
+ghost use mathlib.Core.List.{List, []};
 ghost use lib.ListN.{set};
 ghost use Prim.Native.Nat.{ℕ, _+_, _-_, _*_, _%_, _≤_, _<_};
 ghost use Rattle.definitions.specs.Event.{Load, Arrive};
 ghost use Rattle.definitions.specs.Sizes.{ids, places, shares};
-ghost use Rattle.definitions.specs.Checks.{loadChecks, arriveChecks};
-ghost use Rattle.tables.specs.Tables.{tables, levelAt, headAt, countAt};
+ghost use Rattle.definitions.specs.Checks.{activeChecks, loadChecks, arriveChecks};
+ghost use Rattle.tables.specs.Tables.{Tables, tables, levelColumn, countColumn, written, levelAt, headAt, countAt};
 ghost use Rattle.tables.specs.Invariant.{Valid};
 ghost use Rattle.tables.specs.Numbers.{refusal};
 ghost use Rattle.tables.specs.Promise.{Meets};
 
-// The number that a load is refused with: 19, 4, 5, 11, 12.
-fn load_number(control: Control, clients: &[u32; CLIENTS], id: u32, dummies: u32) -> u32
-    ensures { λ r. ⌜ ((h l k : List ℕ)
-        → r ≡ refusal control (tables (now (clients .entry)) h l k) (λ s. loadChecks s id dummies)) ⌝ }
+// The number that a call for an active client is refused with, before anything else of it counts: 19, 4, 5.
+fn active_number(control: Control, id: u32) -> u32
+    ensures { λ r. ⌜ ((t : Tables) → r ≡ refusal control t (λ s. activeChecks s id [])) ⌝ }
 {
     if !control.opened {
         return UNOPENED;
@@ -42,10 +42,22 @@ fn load_number(control: Control, clients: &[u32; CLIENTS], id: u32, dummies: u32
     if !tables::active(control, id) {
         return 5;
     }
+    0
+}
+
+// The number that a load is refused with: 19, 4, 5, 11, 12.
+fn load_number(control: Control, stocks: &[u32; STOCKS], id: u32, dummies: u32) -> u32
+    ensures { λ r. ⌜ ((w h l k : List ℕ)
+        → r ≡ refusal control (tables w (now (stocks .entry)) h l k) (λ s. loadChecks s id dummies)) ⌝ }
+{
+    let number = active_number(control, id);
+    if number != 0 {
+        return number;
+    }
     if marks::has(control.indifferent, id) {
         return 11;
     }
-    if POOL_LIMIT < tables::wide(clients[(POOL + id) as usize]) + tables::wide(dummies) {
+    if POOL_LIMIT < tables::wide(stocks[(POOL + id) as usize]) + tables::wide(dummies) {
         return 12;
     }
     0
@@ -54,40 +66,42 @@ fn load_number(control: Control, clients: &[u32; CLIENTS], id: u32, dummies: u32
 // Adds dummies to a private client's pool (paper 01, "Load"). Refused: 19, 4, 5, 11, 12.
 pub fn load(
     control: Control,
-    clients: &mut [u32; CLIENTS],
+    terms: &[u32; TERMS],
+    stocks: &mut [u32; STOCKS],
     handles: &[u32; STORE],
     lengths: &[u32; STORE],
     links: &[u32; LINKS],
     id: u32,
     dummies: u32,
 ) -> Answered
-    requires { ⌜ Valid control (tables (now clients) (now handles) (now lengths) (now links)) ⌝ }
+    requires { ⌜ Valid control (tables (now terms) (now stocks) (now handles) (now lengths) (now links)) ⌝ }
     ensures { λ r. ⌜ Meets (Load id dummies) control
-        (tables (now (clients .entry)) (now (handles .entry)) (now (lengths .entry)) (now (links .entry))) r
-        (tables (now (clients .exit)) (now (handles .entry)) (now (lengths .entry)) (now (links .entry))) ⌝ }
+        (tables (now (terms .entry)) (now (stocks .entry)) (now (handles .entry)) (now (lengths .entry)) (now (links .entry))) r
+        (tables (now (terms .entry)) (now (stocks .exit)) (now (handles .entry)) (now (lengths .entry)) (now (links .entry))) ⌝ }
 {
-    let number = load_number(control, clients, id, dummies);
+    let number = load_number(control, stocks, id, dummies);
     if number != 0 {
         return tables::refused(control, number);
     }
     let at = (POOL + id) as usize;
-    clients[at] = clients[at] + dummies;
+    stocks[at] = stocks[at] + dummies;
     tables::accepted(control)
 }
 
 // The number that a packet is refused with: 19, 4, 5, 13, 14, 15.
-fn arrive_number(control: Control, clients: &[u32; CLIENTS], id: u32, packet: Packet) -> u32
+fn arrive_number(
+    control: Control,
+    terms: &[u32; TERMS],
+    stocks: &[u32; STOCKS],
+    id: u32,
+    packet: Packet,
+) -> u32
     ensures { λ r. ⌜ ((h l k : List ℕ)
-        → r ≡ refusal control (tables (now (clients .entry)) h l k) (λ s. arriveChecks s id packet)) ⌝ }
+        → r ≡ refusal control (tables (now (terms .entry)) (now (stocks .entry)) h l k) (λ s. arriveChecks s id packet)) ⌝ }
 {
-    if !control.opened {
-        return UNOPENED;
-    }
-    if IDS <= id {
-        return 4;
-    }
-    if !tables::active(control, id) {
-        return 5;
+    let number = active_number(control, id);
+    if number != 0 {
+        return number;
     }
     if packet.length < SHORTEST {
         return 13;
@@ -95,25 +109,25 @@ fn arrive_number(control: Control, clients: &[u32; CLIENTS], id: u32, packet: Pa
     if LONGEST < packet.length {
         return 13;
     }
-    if PLACES <= clients[(COUNT + id) as usize] {
+    if PLACES <= stocks[(COUNT + id) as usize] {
         return 14;
     }
     if !marks::has(control.indifferent, id) {
         return 0;
     }
-    if clients[(LEVEL + id) as usize] < SHARES {
+    if terms[(LEVEL + id) as usize] < SHARES {
         return 15;
     }
     0
 }
 
 // The place behind an id's last packet.
-fn free_place(clients: &[u32; CLIENTS], id: u32) -> u32
-    requires { ⌜ (id < ids) × (headAt (now clients) id < places) × (countAt (now clients) id < places) ⌝ }
-    ensures { λ r. ⌜ r ≡ id * places + (headAt (now (clients .entry)) id + countAt (now (clients .entry)) id) % places ⌝ }
+fn free_place(stocks: &[u32; STOCKS], id: u32) -> u32
+    requires { ⌜ (id < ids) × (headAt (now stocks) id < places) × (countAt (now stocks) id < places) ⌝ }
+    ensures { λ r. ⌜ r ≡ id * places + (headAt (now (stocks .entry)) id + countAt (now (stocks .entry)) id) % places ⌝ }
 {
-    let head = clients[(HEAD + id) as usize];
-    let count = clients[(COUNT + id) as usize];
+    let head = stocks[(HEAD + id) as usize];
+    let count = stocks[(COUNT + id) as usize];
     id * PLACES + (head + count) % PLACES
 }
 
@@ -129,49 +143,51 @@ fn keep(handles: &mut [u32; STORE], lengths: &mut [u32; STORE], place: u32, pack
 }
 
 // Raises the count of an id's packets by one.
-fn count_up(clients: &mut [u32; CLIENTS], id: u32)
-    requires { ⌜ (id < ids) × (countAt (now clients) id < places) ⌝ }
-    ensures { λ r. ⌜ now (clients .exit) ≡ set (now (clients .entry)) (5 * ids + id) (countAt (now (clients .entry)) id + 1) ⌝ }
+fn count_up(stocks: &mut [u32; STOCKS], id: u32)
+    requires { ⌜ (id < ids) × (countAt (now stocks) id < places) ⌝ }
+    ensures { λ r. ⌜ now (stocks .exit)
+        ≡ written (now (stocks .entry)) countColumn id (countAt (now (stocks .entry)) id + 1) ⌝ }
 {
     let at = (COUNT + id) as usize;
-    clients[at] = clients[at] + 1;
+    stocks[at] = stocks[at] + 1;
 }
 
 // Takes what a packet costs from an id's bucket.
-fn charge(clients: &mut [u32; CLIENTS], id: u32)
-    requires { ⌜ (id < ids) × (shares ≤ levelAt (now clients) id) ⌝ }
-    ensures { λ r. ⌜ now (clients .exit)
-        ≡ set (now (clients .entry)) (2 * ids + id) (levelAt (now (clients .entry)) id - shares) ⌝ }
+fn charge(terms: &mut [u32; TERMS], id: u32)
+    requires { ⌜ (id < ids) × (shares ≤ levelAt (now terms) id) ⌝ }
+    ensures { λ r. ⌜ now (terms .exit)
+        ≡ written (now (terms .entry)) levelColumn id (levelAt (now (terms .entry)) id - shares) ⌝ }
 {
     let at = (LEVEL + id) as usize;
-    clients[at] = clients[at] - SHARES;
+    terms[at] = terms[at] - SHARES;
 }
 
 // Puts a packet last in its client's queue (paper 01, "Arrive"). Refused: 19, 4, 5, 13, 14, 15.
 // It costs the same however many packets wait.
 pub fn arrive(
     control: Control,
-    clients: &mut [u32; CLIENTS],
+    terms: &mut [u32; TERMS],
+    stocks: &mut [u32; STOCKS],
     handles: &mut [u32; STORE],
     lengths: &mut [u32; STORE],
     links: &mut [u32; LINKS],
     id: u32,
     packet: Packet,
 ) -> Answered
-    requires { ⌜ Valid control (tables (now clients) (now handles) (now lengths) (now links)) ⌝ }
+    requires { ⌜ Valid control (tables (now terms) (now stocks) (now handles) (now lengths) (now links)) ⌝ }
     ensures { λ r. ⌜ Meets (Arrive id packet) control
-        (tables (now (clients .entry)) (now (handles .entry)) (now (lengths .entry)) (now (links .entry))) r
-        (tables (now (clients .exit)) (now (handles .exit)) (now (lengths .exit)) (now (links .exit))) ⌝ }
+        (tables (now (terms .entry)) (now (stocks .entry)) (now (handles .entry)) (now (lengths .entry)) (now (links .entry))) r
+        (tables (now (terms .exit)) (now (stocks .exit)) (now (handles .exit)) (now (lengths .exit)) (now (links .exit))) ⌝ }
 {
-    let number = arrive_number(control, clients, id, packet);
+    let number = arrive_number(control, terms, stocks, id, packet);
     if number != 0 {
         return tables::refused(control, number);
     }
-    let place = free_place(clients, id);
+    let place = free_place(stocks, id);
     keep(handles, lengths, place, packet);
-    count_up(clients, id);
+    count_up(stocks, id);
     if marks::has(control.indifferent, id) {
-        charge(clients, id);
+        charge(terms, id);
         order::push(links, place);
     }
     let mut after = control;

@@ -26,7 +26,7 @@ unopened-requires : tie.Need-unopened-requires
 unopened-requires c κs = search needs
 
 open-requires : tie.Need-open-requires
-open-requires c κs = c .before .before .before .before .unopened .ensures _ .1
+open-requires c κs = c .before .before .before .before .before .unopened .ensures _ .1
 
 join-all-requires : tie.Need-join-all-requires
 join-all-requires c κs = search needs
@@ -36,8 +36,9 @@ fill-queues-requires c κs = search needs
 
 traffic-rounds-requires : tie.Need-traffic-rounds-requires
 traffic-rounds-requires c κs =
-    let filled = c .before .before .before .before .before in
-    let begun = filled .before .before .before .before .before .before .before .before .before .before .before .before .before .before .before .before .before in
+    let filled = c .before .before .before .before .before .before in
+    let joined = filled .before .before .before .before .before .before .before .before .before .before .before in
+    let begun = joined .before .before .before .before .before .before .before .before .before in
     (filled .fill-queues .ensures, omega (arith, begun .before .before .if3 .left))
 
 returns-6 : tie.Need-returns-6
@@ -45,8 +46,9 @@ returns-6 c = search needs
 
 refused-rounds-requires : tie.Need-refused-rounds-requires
 refused-rounds-requires c κs =
-    let filled = c .before .before .before .before .before in
-    let begun = filled .before .before .before .before .before .before .before .before .before .before .before .before .before .before .before .before .before in
+    let filled = c .before .before .before .before .before .before in
+    let joined = filled .before .before .before .before .before .before .before .before .before .before .before in
+    let begun = joined .before .before .before .before .before .before .before .before .before in
     (filled .fill-queues .ensures, omega (arith, begun .before .before .if3 .left), omega (arith, begun .if5 .left))
 
 returns-7 : tie.Need-returns-7

@@ -24,14 +24,14 @@ loop-holds : tie.Need-loop-holds Inv-loop μ-loop
 loop-holds c = (search needs, goes-none _ _ (c .begin .ensures .valid _))
 
 calls-requires : tie.Need-calls-requires Inv-loop μ-loop
-calls-requires c κs = c .before .before .before .before .before .loop .inv .1 .valid
+calls-requires c κs = c .before .before .before .before .before .before .loop .inv .1 .valid
 
 add-done : tie.Need-add-done Inv-loop μ-loop
 add-done c = search needs
 
 tell-requires : tie.Need-tell-requires Inv-loop μ-loop
 tell-requires c κs =
-    let at = c .before .before .before .before .before .before in
+    let at = c .before .before .before .before .before .before .before in
     check-after (at .before .begin .ensures) (goes-as (omega arith) (goes-on (at .loop .inv .1) (c .calls .ensures)))
 
 returns : tie.Need-returns Inv-loop μ-loop
@@ -43,7 +43,7 @@ loop-less c = search needs
 loop-again : tie.Need-loop-again Inv-loop μ-loop
 loop-again c =
     let made = c .before .before in
-    let test = made .before .before .before .before .before in
+    let test = made .before .before .before .before .before .before in
     (omega (arith, test .loop-test .taken), goes-as (omega arith) (goes-on (test .before .loop .inv .1) (made .calls .ensures)))
 
 returns-2 : tie.Need-returns-2 Inv-loop μ-loop

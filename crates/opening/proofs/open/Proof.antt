@@ -7,7 +7,7 @@ use Rattle.order.specs.Order.{sentinel, linkCount}
 use Rattle.tables.specs.declared.Control.{Control}
 use Rattle.tables.specs.declared.Answered.{Answered}
 use Rattle.definitions.specs.declared.Answer.the-variants.{Accepted}
-use Rattle.opening.proofs.Emptiness.{open-refused, open-accepted}
+use Rattle.opening.proofs.OpenPromise.{open-refused, open-accepted}
 use Rattle.opening.proofs.open.Statement.{statement}
 use Rattle.opening.proofs.open.Tie as tie
 
@@ -29,14 +29,18 @@ control-of-requires c κs = search needs
 accepted-requires : tie.Need-accepted-requires
 accepted-requires c κs = search needs
 
+-- what an accepted call gives, by the control after it
+abbrev accepting : Control → Answered
+accepting d = record { control = d; answer = Accepted }
+
 returns-2 : tie.Need-returns-2
 unfolding ids places sentinel linkCount
 returns-2 c =
-    let e = c .before .before .before .before .before .before in
+    let e = c .before .before .before .before .before .before .before in
     let start = e .before .before in
     open-accepted (start .args .control) _ (start .pre) (start .args .threshold) (start .args .discipline) (start .args .seed)
     (c .accepted .result)
-    (c .accepted .ensures ∙ ap (λ (d : Control). let r : Answered = record { control = d; answer = Accepted } in r) (c .before .control-of .ensures))
+    (c .accepted .ensures ∙ ap accepting (c .before .control-of .ensures))
     (sym (e .before .open-number .ensures) ∙ e .if1 .left)
 
 pub open-spec : {M : Type 1} → statement M

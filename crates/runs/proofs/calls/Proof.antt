@@ -30,7 +30,7 @@ loop-less c = search needs
 
 loop-again : tie.Need-loop-again Inv-loop μ-loop
 loop-again c =
-    let test = c .before .before .before .before .before in
+    let test = c .before .before .before .before .before .before in
     (search needs, goes-on (test .before .loop .inv .1) (c .call-once .ensures))
 
 returns : tie.Need-returns Inv-loop μ-loop

@@ -85,7 +85,7 @@ same-length-3 c = search needs
 returns-3 : tie.Need-returns-3
 returns-3 c =
     let performed = c .before .before .before .before .before in
-    let read = performed .before .before .before .before .before .before in
+    let read = performed .before .before .before .before .before .before .before in
     let parsed = read .before .before in
     let found = parsed .before .before .before in
     let start = found .before .before .before in

@@ -46,25 +46,25 @@ tick-requires : tie.Need-tick-requires
 tick-requires c κs = search needs
 
 returns : tie.Need-returns
-returns c = rw (c .before .before .before .before .before .before .call .given .1) (c .«open» .ensures)
+returns c = rw (c .before .before .before .before .before .before .before .call .given .1) (c .«open» .ensures)
 
 returns-2 : tie.Need-returns-2
-returns-2 c = rw (c .before .before .before .before .before .before .call2 .given .1) (c .join .ensures)
+returns-2 c = rw (c .before .before .before .before .before .before .before .call2 .given .1) (c .join .ensures)
 
 returns-3 : tie.Need-returns-3
-returns-3 c = rw (c .before .before .before .before .before .before .call3 .given .1) (c .change .ensures)
+returns-3 c = rw (c .before .before .before .before .before .before .before .call3 .given .1) (c .change .ensures)
 
 returns-4 : tie.Need-returns-4
-returns-4 c = rw (c .before .before .before .before .before .before .call4 .given .1) (c .leave .ensures)
+returns-4 c = rw (c .before .before .before .before .before .before .before .call4 .given .1) (c .leave .ensures)
 
 returns-5 : tie.Need-returns-5
-returns-5 c = rw (c .before .before .before .before .before .before .call5 .given .1) (c .load .ensures)
+returns-5 c = rw (c .before .before .before .before .before .before .before .call5 .given .1) (c .load .ensures)
 
 returns-6 : tie.Need-returns-6
-returns-6 c = rw (c .before .before .before .before .before .before .call6 .given .1) (c .arrive .ensures)
+returns-6 c = rw (c .before .before .before .before .before .before .before .call6 .given .1) (c .arrive .ensures)
 
 returns-7 : tie.Need-returns-7
-returns-7 c = rw (c .before .before .before .before .before .enum-told .given .1) (c .tick .ensures)
+returns-7 c = rw (c .before .before .before .before .before .before .before .enum-told .given .1) (c .before .tick .ensures .0)
 
 pub perform-spec : {M : Type 1} → statement M
 perform-spec =

@@ -43,19 +43,19 @@ going c = on (c .before .before .before .before .before .args .text .now) _ _ _ 
 
 line-requires : tie.Need-line-requires Inv-loop μ-loop
 line-requires c κs =
-    let test = c .before .before .before .before .before in
+    let test = c .before .before .before .before .before .before in
     (test .before .before .loop .inv .1 .valid, going test .0, going test .1)
 
 loop-less : tie.Need-loop-less Inv-loop μ-loop
 loop-less c =
     let line = c .before .before .before .line .ensures in
-    let test = c .before .before .before .before .before .before .before .before .before in
+    let test = c .before .before .before .before .before .before .before .before .before .before in
     omega (arith, going test .0, line .1)
 
 loop-again : tie.Need-loop-again Inv-loop μ-loop
 loop-again c =
     let line = c .before .before .before .line .ensures in
-    let before = c .before .before .before .before .before .before .before .before .before .before .before .loop .inv in (
+    let before = c .before .before .before .before .before .before .before .before .before .before .before .before .loop .inv in (
       search needs,
       walked-more (before .1) (line .0),
       omega (arith, before .2, line .1),

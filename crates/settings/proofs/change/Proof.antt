@@ -35,8 +35,8 @@ retune-requires c κs =
     let e = c .before .before .before in
     let start = e .before .before .before in
     let a = start .args in
-    change-room (a .control) _ (start .pre) (a .id) (a .kind) (a .rate) (a .burst)
-    (sym (e .before .change-number .ensures _ _ _ _ (start .pre)) ∙ e .if1 .left)
+    let none = sym (e .before .change-number .ensures _ _ _ _ (start .pre)) ∙ e .if1 .left in
+    change-room (a .control) _ (start .pre) (a .id) (a .kind) (a .rate) (a .burst) none
 
 accepted-requires : tie.Need-accepted-requires
 accepted-requires c κs = search needs
@@ -48,9 +48,9 @@ returns-2 c =
     let e = f .before .before in
     let start = e .before .before .before in
     let a = start .args in
+    let none = sym (e .before .change-number .ensures _ _ _ _ (start .pre)) ∙ e .if1 .left in
     rw (p .ensures .1)
-    (change-retuned (a .control) _ (start .pre) (a .id) (a .kind) (a .rate) (a .burst)
-    (sym (e .before .change-number .ensures _ _ _ _ (start .pre)) ∙ e .if1 .left)
+    (change-retuned (a .control) _ (start .pre) (a .id) (a .kind) (a .rate) (a .burst) none
     (sym (f .before .keeps-kind .ensures) ∙ f .if2 .taken) (c .accepted .result) (rw (p .ensures .0) at (c .accepted .ensures)))
 
 empty-requires : tie.Need-empty-requires
@@ -58,8 +58,8 @@ empty-requires c κs =
     let e = c .before .before .before .before in
     let start = e .before .before .before in
     let a = start .args in
-    change-ready (a .control) _ (start .pre) (a .id) (a .kind) (a .rate) (a .burst)
-    (sym (e .before .change-number .ensures _ _ _ _ (start .pre)) ∙ e .if1 .left)
+    let none = sym (e .before .change-number .ensures _ _ _ _ (start .pre)) ∙ e .if1 .left in
+    change-ready (a .control) _ (start .pre) (a .id) (a .kind) (a .rate) (a .burst) none
 
 place-client-requires : tie.Need-place-client-requires
 place-client-requires c κs =
@@ -67,8 +67,9 @@ place-client-requires c κs =
     let e = c .before .before .before .before .before .before in
     let start = e .before .before .before in
     let a = start .args in
+    let none = sym (e .before .change-number .ensures _ _ _ _ (start .pre)) ∙ e .if1 .left in
     change-room-bare (a .control) _ (start .pre) (a .id) (a .kind) (a .rate) (a .burst)
-    (sym (e .before .change-number .ensures _ _ _ _ (start .pre)) ∙ e .if1 .left) (q .result) _ _ (q .ensures)
+    none (q .result) _ _ (q .ensures)
 
 accepted-requires-2 : tie.Need-accepted-requires-2
 accepted-requires-2 c κs = search needs
@@ -81,9 +82,9 @@ returns-3 c =
     let e = f .before .before in
     let start = e .before .before .before in
     let a = start .args in
+    let none = sym (e .before .change-number .ensures _ _ _ _ (start .pre)) ∙ e .if1 .left in
     rw (p .ensures .1)
-    (change-placed (a .control) _ (start .pre) (a .id) (a .kind) (a .rate) (a .burst)
-    (sym (e .before .change-number .ensures _ _ _ _ (start .pre)) ∙ e .if1 .left)
+    (change-placed (a .control) _ (start .pre) (a .id) (a .kind) (a .rate) (a .burst) none
     (q .result) _ _ (q .ensures) (p .result) (p .ensures .0)
     (sym (f .before .keeps-kind .ensures) ∙ f .if2 .left) (c .accepted2 .result) (c .accepted2 .ensures))
 

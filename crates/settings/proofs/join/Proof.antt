@@ -24,8 +24,8 @@ clear-requires c κs =
     let e = c .before in
     let start = e .before .before in
     let a = start .args in
-    join-below (a .control) _ (start .pre) (a .id) (a .kind) (a .rate) (a .burst)
-    (sym (e .before .join-number .ensures _ (start .pre)) ∙ e .if1 .left)
+    let none = sym (e .before .join-number .ensures _ (start .pre)) ∙ e .if1 .left in
+    join-below (a .control) _ (start .pre) (a .id) (a .kind) (a .rate) (a .burst) none
 
 place-client-requires : tie.Need-place-client-requires
 place-client-requires c κs =
@@ -33,8 +33,8 @@ place-client-requires c κs =
     let e = c .before .before .before in
     let start = e .before .before in
     let a = start .args in
-    join-room (a .control) _ (start .pre) (a .id) (a .kind) (a .rate) (a .burst)
-    (sym (e .before .join-number .ensures _ (start .pre)) ∙ e .if1 .left) (q .result) (q .ensures .0)
+    let none = sym (e .before .join-number .ensures _ (start .pre)) ∙ e .if1 .left in
+    join-room (a .control) _ (start .pre) (a .id) (a .kind) (a .rate) (a .burst) none (q .result) (q .ensures .0)
 
 accepted-requires : tie.Need-accepted-requires
 accepted-requires c κs = search needs
@@ -46,9 +46,10 @@ returns-2 c =
     let e = c .before .before .before .before .before in
     let start = e .before .before in
     let a = start .args in
+    let none = sym (e .before .join-number .ensures _ (start .pre)) ∙ e .if1 .left in
     rw (p .ensures .1, q .ensures .1)
     (join-accepted (a .control) _ (start .pre) (a .id) (a .kind) (a .rate) (a .burst)
-    (sym (e .before .join-number .ensures _ (start .pre)) ∙ e .if1 .left) (q .result) (q .ensures .0) (p .result) (p .ensures .0)
+    none (q .result) (q .ensures .0) (p .result) (p .ensures .0)
     (c .accepted .result) (c .accepted .ensures))
 
 pub join-spec : {M : Type 1} → statement M

@@ -23,14 +23,16 @@ empty-requires : tie.Need-empty-requires
 empty-requires c κs =
     let e = c .before .before in
     let start = e .before .before in
-    leave-ready (start .args .control) _ (start .pre) (start .args .id) (sym (e .before .leave-number .ensures _) ∙ e .if1 .left)
+    let none = sym (e .before .leave-number .ensures _) ∙ e .if1 .left in
+    leave-ready (start .args .control) _ (start .pre) (start .args .id) none
 
 place-client-requires : tie.Need-place-client-requires
 place-client-requires c κs =
     let q = c .before .empty in
     let e = c .before .before .before .before in
     let start = e .before .before in
-    leave-room (start .args .control) _ (start .pre) (start .args .id) (sym (e .before .leave-number .ensures _) ∙ e .if1 .left)
+    let none = sym (e .before .leave-number .ensures _) ∙ e .if1 .left in
+    leave-room (start .args .control) _ (start .pre) (start .args .id) none
     (q .result) _ _ (q .ensures)
 
 accepted-requires : tie.Need-accepted-requires
@@ -43,8 +45,9 @@ returns-2 c =
     let e = c .before .before .before .before .before .before in
     let start = e .before .before in
     let a = start .args in
+    let none = sym (e .before .leave-number .ensures _) ∙ e .if1 .left in
     rw (p .ensures .1)
-    (leave-accepted (a .control) _ (start .pre) (a .id) (sym (e .before .leave-number .ensures _) ∙ e .if1 .left)
+    (leave-accepted (a .control) _ (start .pre) (a .id) none
     (q .result) _ _ (q .ensures) (p .result) (p .ensures .0) (c .accepted .result) (c .accepted .ensures))
 
 pub leave-spec : {M : Type 1} → statement M

@@ -10,7 +10,7 @@ use Rattle.definitions.specs.Sizes.{ids, places}
 use Rattle.order.specs.Order.{Sound, Ordered}
 use Rattle.order.specs.Owner.{placesOf}
 use Rattle.tables.specs.Tables.{ring}
-use Rattle.settings.proofs.Rings.{Withdrawing, withdrawing-start, withdrawing-step, withdrawing-done}
+use Rattle.settings.proofs.Withdrawing.{Withdrawing, withdrawing-start, withdrawing-step, withdrawing-done}
 use Rattle.settings.proofs.unlink_ring.Statement.{statement}
 use Rattle.settings.proofs.unlink_ring.Tie as tie
 

@@ -6,7 +6,7 @@ use Rattle.definitions.specs.Sizes.{ids}
 use Rattle.definitions.specs.Client.{isIndifferent}
 use Rattle.tables.specs.Meaning.{kindAt}
 use Rattle.tables.proofs.MarkedKinds.{kind-indifferent}
-use Rattle.settings.proofs.Rings.{withdrawn-none}
+use Rattle.settings.proofs.Withdrawing.{withdrawn-none}
 use Rattle.tables.specs.Tables.{field}
 use Rattle.settings.proofs.withdraw.Statement.{statement}
 use Rattle.settings.proofs.withdraw.Tie as tie

@@ -41,26 +41,26 @@ returns : tie.Need-returns Inv-loop μ-loop
 returns c = counted-all (c .before .before .before .before .loop .inv .1) (c .if2 .taken)
 
 piece-requires : tie.Need-piece-requires Inv-loop μ-loop
-piece-requires c κs = c .before .before .before .before .before .before .before .before .before .loop .inv .1 .valid
+piece-requires c κs = c .before .before .before .before .before .before .before .before .before .before .loop .inv .1 .valid
 
 add-total : tie.Need-add-total Inv-loop μ-loop
 unfolding textLimit
 add-total c =
-    let test = c .before .before .before .before .before .before .before .before .before in
+    let test = c .before .before .before .before .before .before .before .before .before .before in
     let inv = test .before .before .before .before .loop .inv in
     let same = c .before .before .before .piece .kept .1 .1 .0 in
     omega (arith, counted-fits (inv .1) (c .before .before .before .piece .ensures) same (test .if2 .left))
 
 loop-less : tie.Need-loop-less Inv-loop μ-loop
 loop-less c =
-    let test = c .before .before .before .before .before .before .before .before .before in
+    let test = c .before .before .before .before .before .before .before .before .before .before in
     let inv = test .before .before .before .before .loop .inv in
     let same = c .before .before .before .piece .kept .1 .1 .0 in
     omega (arith, test .if2 .left, counted-on (inv .1) (c .before .before .before .piece .ensures) same (test .if2 .left))
 
 loop-again : tie.Need-loop-again Inv-loop μ-loop
 loop-again c =
-    let test = c .before .before .before .before .before .before .before .before .before in
+    let test = c .before .before .before .before .before .before .before .before .before .before in
     let inv = test .before .before .before .before .loop .inv in
     let same = c .before .before .before .piece .kept .1 .1 .0 in
     (same ∙ inv .0, counted-more (inv .1) (c .before .before .before .piece .ensures) same (test .if2 .left))

@@ -1,5 +1,5 @@
 -- `traffic::arrive` meets its contract: it is refused with the first number that fails, and else the packet is stored, counted,
--- paid and put into the order as Arrivals says. Assumes nothing.
+-- paid and put into the order as ArrivedTables says. Assumes nothing.
 use borrow.Author.Needs.{needs}
 use Prim.Native.Nat.{_<_}
 use mathlib.Core.Path.{_≡_, sym, _∙_}
@@ -12,9 +12,9 @@ use Rattle.tables.specs.Meaning.{kindAt}
 use Rattle.tables.specs.Invariant.{Shape}
 use Rattle.tables.specs.Numbers.{refusal}
 use Rattle.tables.proofs.MarkedKinds.{kind-indifferent}
-use Rattle.traffic.proofs.Arriving.{place-stored, Counted, Lined}
-use Rattle.traffic.proofs.Arrivals.{arrive-refused, arrive-sound, arrive-below, arrive-room, arrive-paid, arrive-accepted}
-use Rattle.traffic.proofs.Arrivals.{raised-level, counted-private, counted-indifferent, lined-private, lined-indifferent}
+use Rattle.traffic.proofs.ArrivedTables.{place-stored, chargedTerms, Lined}
+use Rattle.traffic.proofs.ArrivePromise.{lined-private, lined-indifferent, arrive-refused, arrive-accepted}
+use Rattle.traffic.proofs.ArrivePromise.{arrive-sound, arrive-below, arrive-room, arrive-paid}
 use Rattle.traffic.proofs.arrive.Statement.{statement}
 use Rattle.traffic.proofs.arrive.Tie as tie
 
@@ -26,33 +26,34 @@ refused-requires c κs = search needs
 
 returns : tie.Need-returns
 returns c =
-    let start = c .before .before .before .before in
+    let start = c .before .before .before .before .before in
     arrive-refused (start .args .control) _ (start .pre) (start .args .id) (start .args .packet) (c .refused .result) _
     (c .refused .ensures) (c .before .before .arrive-number .ensures _ _ _) (c .before .if1 .taken)
 
 -- what is known where no check failed
 abbrev entry : tie.Else1 → Tables
 entry c =
-    let a = c .before .before .before .args in
-    tables (a .clients .now) (a .handles .now) (a .lengths .now) (a .links .now)
+    let a = c .before .before .before .before .args in
+    tables (a .terms .now) (a .stocks .now) (a .handles .now) (a .lengths .now) (a .links .now)
 
 none : (c : tie.Else1) →
-    let a = c .before .before .before .args in refusal (a .control) (entry c) (λ s. arriveChecks s (a .id) (a .packet)) ≡ 0
+    let a = c .before .before .before .before .args in
+    refusal (a .control) (entry c) (λ s. arriveChecks s (a .id) (a .packet)) ≡ 0
 none c = sym (c .before .arrive-number .ensures _ _ _) ∙ c .if1 .left
 
-abbrev shape : (c : tie.Else1) → let a = c .before .before .before .args in Shape (a .control) (entry c)
+abbrev shape : (c : tie.Else1) → let a = c .before .before .before .before .args in Shape (a .control) (entry c)
 shape c =
-    let start = c .before .before .before in
+    let start = c .before .before .before .before in
     arrive-sound (start .args .control) (entry c) (start .pre) (start .args .id) (start .args .packet) (none c) .shape
 
-below : (c : tie.Else1) → let a = c .before .before .before .args in a .id < ids
+below : (c : tie.Else1) → let a = c .before .before .before .before .args in a .id < ids
 below c =
-    let start = c .before .before .before in
+    let start = c .before .before .before .before in
     arrive-below (start .args .control) (entry c) (start .pre) (start .args .id) (start .args .packet) (none c)
 
-room : (c : tie.Else1) → let a = c .before .before .before .args in countAt (a .clients .now) (a .id) < places
+room : (c : tie.Else1) → let a = c .before .before .before .before .args in countAt (a .stocks .now) (a .id) < places
 room c =
-    let start = c .before .before .before in
+    let start = c .before .before .before .before in
     arrive-room (start .args .control) (entry c) (start .pre) (start .args .id) (start .args .packet) (none c)
 
 free-place-requires : tie.Need-free-place-requires
@@ -73,21 +74,20 @@ has-requires c κs = search needs
 
 -- what the test for an indifferent client says
 same : (c : tie.After-has) →
-    let a = c .before .before .before .before .before .before .before .before .before .before .before .args in
+    let a = c .before .before .before .before .before .before .before .before .before .before .before .before .args in
     isIndifferent (kindAt (a .control) (a .id)) ≡ c .has .result
 same c =
-    let a = c .before .before .before .before .before .before .before .before .before .before .before .args in
+    let a = c .before .before .before .before .before .before .before .before .before .before .before .before .args in
     kind-indifferent (a .control) (a .id) ∙ sym (c .has .ensures)
 
 charge-requires : tie.Need-charge-requires
 charge-requires c κs =
     let has = c .before .before in
     let e = has .before .before .before .before .before .before .before .before in
-    let start = e .before .before .before in
+    let start = e .before .before .before .before in
     let owes = same has ∙ c .before .if2 .taken in (
       below e,
-      rw (has .before .count-up .ensures, raised-level (start .args .control) (entry e) (shape e) (start .args .id) (below e))
-          (arrive-paid (start .args .control) (entry e) (start .pre) (start .args .id) (start .args .packet) (none e) owes),
+      arrive-paid (start .args .control) (entry e) (start .pre) (start .args .id) (start .args .packet) (none e) owes,
     )
 
 push-requires : tie.Need-push-requires
@@ -95,30 +95,27 @@ push-requires c κs =
     let has = c .before .before .before .before in
     shape (has .before .before .before .before .before .before .before .before) .sound
 
--- on either way, the clients' table and the links are as they should be
+-- on either way, the terms and the links are as they should be
 met : (c : tie.Joined2) →
     let e = c .before .before .before .before .before .before .before .before .before in
-    let a = e .before .before .before .args in
-    Counted (a .control) (entry e) (a .id) (c .if2 .clients)
+    let a = e .before .before .before .before .args in
+    (c .if2 .terms ≡ chargedTerms (a .control) (entry e) (a .id))
     × Lined (a .control) (entry e) (a .id) (shape e .order) (c .if2 .links)
 met c =
     let e = c .before .before .before .before .before .before .before .before .before in
-    let a = e .before .before .before .args in
+    let a = e .before .before .before .before .args in
     let free = c .before .before .before .before .before .before .before .free-place in
-    let raised = c .before .before .count-up .ensures in
     ⊎-elim
     (λ w.
     let owes = same (c .before) ∙ w .0 .taken in (
-      rw (w .5 ∙ w .2 .ensures, raised) (counted-indifferent (a .control) (entry e) (shape e) (a .id) (below e) owes),
+      rw owes (w .5 ∙ w .2 .ensures),
       rw (w .6)
           (lined-indifferent (a .control) (entry e) (shape e) (a .id) (below e) (room e) owes _ _ (free .ensures)
           (w .4 .ensures .0) (w .4 .ensures .1)),
     ))
     (λ w.
-    let keeps = same (c .before) ∙ w .0 .left in (
-      rw (w .1 ∙ raised) (counted-private (a .control) (entry e) (shape e) (a .id) (below e) keeps),
-      rw (w .2) (lined-private (a .control) (entry e) (shape e) (a .id) (below e) keeps),
-    ))
+    let keeps = same (c .before) ∙ w .0 .left in
+    (rw keeps (w .1), rw (w .2) (lined-private (a .control) (entry e) (shape e) (a .id) keeps)))
     (c .if2 .came)
 
 mark-requires : tie.Need-mark-requires
@@ -131,13 +128,14 @@ returns-2 : tie.Need-returns-2
 returns-2 c =
     let join = c .before .before in
     let e = join .before .before .before .before .before .before .before .before .before in
-    let start = e .before .before .before in
+    let start = e .before .before .before .before in
     let kept = join .before .before .before .before .keep in
     let free = join .before .before .before .before .before .before .before .free-place in
-    rw (kept .ensures .0, kept .ensures .1, free .ensures)
+    let counted = join .before .before .count-up in
+    rw (met join .0, counted .ensures, kept .ensures .0, kept .ensures .1, free .ensures)
     (arrive-accepted (start .args .control) (entry e) (start .pre) (start .args .id) (start .args .packet) (none e)
-    (join .if2 .clients) (join .if2 .links) (c .before .mark .result) (met join .0) (met join .1) (c .before .mark .ensures)
-    (c .accepted .result) (c .accepted .ensures))
+    (join .if2 .links) (c .before .mark .result) (met join .1) (c .before .mark .ensures) (c .accepted .result)
+    (c .accepted .ensures))
 
 pub arrive-spec : {M : Type 1} → statement M
 arrive-spec =

@@ -13,23 +13,23 @@ add-at c = search needs
 cast-at : tie.Need-cast-at
 cast-at c = search needs
 
-mul-clients : tie.Need-mul-clients
-mul-clients c = search needs
+mul-terms : tie.Need-mul-terms
+mul-terms c = search needs
 
-element-copy-out-clients : tie.Need-element-copy-out-clients
+element-copy-out-terms : tie.Need-element-copy-out-terms
 unfolding ids shares field
-element-copy-out-clients c = search needs
+element-copy-out-terms c = search needs
 
-sub-clients : tie.Need-sub-clients
+sub-terms : tie.Need-sub-terms
 unfolding ids shares field
-sub-clients c = search needs
+sub-terms c = search needs
 
-mul-clients-2 : tie.Need-mul-clients-2
-mul-clients-2 c = search needs
+mul-terms-2 : tie.Need-mul-terms-2
+mul-terms-2 c = search needs
 
-element-write-clients : tie.Need-element-write-clients
+element-write-terms : tie.Need-element-write-terms
 unfolding ids shares field
-element-write-clients c = search needs
+element-write-terms c = search needs
 
 returns : tie.Need-returns
 unfolding ids shares field
@@ -41,9 +41,9 @@ charge-spec =
     (tie.spec
     add-at
     cast-at
-    mul-clients
-    element-copy-out-clients
-    sub-clients
-    mul-clients-2
-    element-write-clients
+    mul-terms
+    element-copy-out-terms
+    sub-terms
+    mul-terms-2
+    element-write-terms
     returns)

@@ -13,23 +13,23 @@ add-at c = search needs
 cast-at : tie.Need-cast-at
 cast-at c = search needs
 
-mul-clients : tie.Need-mul-clients
-mul-clients c = search needs
+mul-stocks : tie.Need-mul-stocks
+mul-stocks c = search needs
 
-element-copy-out-clients : tie.Need-element-copy-out-clients
+element-copy-out-stocks : tie.Need-element-copy-out-stocks
 unfolding ids places field
-element-copy-out-clients c = search needs
+element-copy-out-stocks c = search needs
 
-add-clients : tie.Need-add-clients
+add-stocks : tie.Need-add-stocks
 unfolding ids places field
-add-clients c = search needs
+add-stocks c = search needs
 
-mul-clients-2 : tie.Need-mul-clients-2
-mul-clients-2 c = search needs
+mul-stocks-2 : tie.Need-mul-stocks-2
+mul-stocks-2 c = search needs
 
-element-write-clients : tie.Need-element-write-clients
+element-write-stocks : tie.Need-element-write-stocks
 unfolding ids places field
-element-write-clients c = search needs
+element-write-stocks c = search needs
 
 returns : tie.Need-returns
 unfolding ids places field
@@ -41,9 +41,9 @@ count-up-spec =
     (tie.spec
     add-at
     cast-at
-    mul-clients
-    element-copy-out-clients
-    add-clients
-    mul-clients-2
-    element-write-clients
+    mul-stocks
+    element-copy-out-stocks
+    add-stocks
+    mul-stocks-2
+    element-write-stocks
     returns)

@@ -1,0 +1,59 @@
+-- What every call for an active client asks first, 19, 4 and 5, over control and tables: where one of these fails, its number
+-- is the call's, and where none does, the id is active and the call's other checks decide. By cases on the three tests.
+-- Assumes nothing.
+use Prim.Native.Nat.{ℕ, _<_}
+use mathlib.Core.Path.{_≡_, refl, sym, _∙_}
+use mathlib.Core.Logic.{_≢_}
+use mathlib.Core.Bool.{Bool, true, false, cond}
+use mathlib.Core.List.{List, []}
+use native.Mathlib.Omega.{arith}
+use lib.Dec.{ltb}
+use borrow.Author.Tests.{ltb-true}
+use Rattle.definitions.specs.Sizes.{ids}
+use Rattle.definitions.specs.Client.{isActive}
+use Rattle.definitions.specs.State.{State}
+use Rattle.definitions.specs.Checks.{Check, activeChecks}
+use Rattle.tables.specs.declared.Control.{Control}
+use Rattle.tables.specs.Tables.{Tables, tables}
+use Rattle.tables.specs.Meaning.{stateOf}
+use Rattle.tables.specs.Numbers.{firstFailed, refusal}
+
+-- the number by the three tests, and by what is asked behind them
+abbrev byTests : Bool → Bool → Bool → ℕ → ℕ
+byTests opened below active rest = cond opened (cond below (cond active rest 5) 4) 19
+
+module _ (c : Control) (id n : ℕ) (number : (t : Tables) → n ≡ refusal c t (λ s. activeChecks s id [])) where
+  abbrev active : Tables → Bool
+  active t = isActive (stateOf c t .clients id .kind)
+
+  pub active-failed : (t : Tables) (more : State → List Check)
+      → n ≢ 0
+      → n ≡ refusal c t (λ s. activeChecks s id (more s))
+  unfolding refusal firstFailed activeChecks
+  active-failed t more some =
+      number t ∙ go (c .opened) (ltb id ids) (active t) (firstFailed (more (stateOf c t))) (λ z. some (number t ∙ z))
+    where
+      go : (o b a : Bool) (rest : ℕ) → byTests o b a 0 ≢ 0 → byTests o b a 0 ≡ byTests o b a rest
+      go true true true rest fails = absurd (fails refl)
+      go true true false rest fails = refl
+      go true false a rest fails = refl
+      go false b a rest fails = refl
+
+  module _ (none : n ≡ 0) where
+    tests-passed : (t : Tables) → (c .opened ≡ true) × (ltb id ids ≡ true) × (active t ≡ true)
+    unfolding refusal firstFailed activeChecks
+    tests-passed t = go (c .opened) (ltb id ids) (active t) (sym (number t) ∙ none)
+      where
+        go : (o b a : Bool) → byTests o b a 0 ≡ 0 → (o ≡ true) × (b ≡ true) × (a ≡ true)
+        go true true true e = (refl, refl, refl)
+        go true true false e = absurd (omega arith)
+        go true false a e = absurd (omega arith)
+        go false b a e = absurd (omega arith)
+
+    pub active-below : id < ids
+    active-below = ltb-true id ids (tests-passed (tables [] [] [] [] []) .1)
+
+    pub active-rest : (t : Tables) (more : State → List Check)
+        → refusal c t (λ s. activeChecks s id (more s)) ≡ firstFailed (more (stateOf c t))
+    unfolding refusal firstFailed activeChecks
+    active-rest t more = rw (tests-passed t .2, tests-passed t .1, tests-passed t .0)
