@@ -15,9 +15,14 @@ use Rattle.definitions.specs.History.{calls, clientOf, stockOf, generato
 
 unfoldable pub everything : Type 0
 unfolding ids places poolLimit shares burstLimit shortest longest indifferentKind privateKind throws firstCome weightedDraw
-    xorLeft xorRight stepped evenSpan sampleFrom sample sumBelow firstFrom drawnAt draw kindOf joining retuned changed charged refilled loaded queued spent
-    fresh updated put stocked emptied without withoutFirst earliest number values word shown isAccepted bears isDeparture checked within activeRate rates
-    burstFits openChecks termChecks joinChecks activeChecks changeChecks leaveChecks loadChecks arriveChecks onOpen onJoin
-    sideAfterChange onChange onLeave onLoad orderAfterArrival sideAfterArrival onArrive anyBelow contends ruleOf contenderRate privateRate firstTurn
-    turnBy turn padding sent outcomeBy stocksAfter orderAfter sideAfter refillAll slotted onTick step calls clientOf stockOf generatorOf
+    xorLeft xorRight stepped evenSpan sampleFrom sample sumBelow firstFrom drawnAt draw
+    kindOf joining retuned changed charged refilled loaded queued spent
+    fresh updated put stocked emptied without withoutFirst earliest
+    number values word shown isAccepted bears isDeparture
+    checked within activeRate rates burstFits
+    openChecks termChecks joinChecks activeChecks changeChecks leaveChecks loadChecks arriveChecks
+    onOpen onJoin sideAfterChange onChange onLeave onLoad orderAfterArrival sideAfterArrival onArrive
+    anyBelow contends ruleOf contenderRate privateRate firstTurn turnBy turn
+    padding sent outcomeBy stocksAfter orderAfter sideAfter refillAll slotted onTick
+    step calls clientOf stockOf generatorOf
 everything = Unit {0}

@@ -1,5 +1,6 @@
 -- Every state that a history of numbers within their limits reaches has its generator and its handles within theirs.
--- By induction over the history: an open's seed is not 0, a tick steps the generator or leaves it, and only an arrival brings a handle.
+-- By induction over the history: an open's seed is not 0, a tick steps the generator or leaves it,
+-- and only an arrival brings a handle.
 use Prim.Native.Nat.{ℕ, zero, suc, _≤_}
 use mathlib.Core.Path.{_≡_, refl}
 use mathlib.Core.Bool.{false≢true}
@@ -42,7 +43,8 @@ draw-seeded generator weight seeded =
 turnBy-seeded : (rule : Rule) (s : State) → Seeded (s .side .generator) → Seeded (turnBy rule s .generator)
 unfolding turnBy firstTurn
 turnBy-seeded rule1 s seeded =
-    cond-both (λ (t : Turn). Seeded (t .generator)) (eqb (s .discipline) firstCome) seeded (draw-seeded (s .side .generator) _ seeded)
+    cond-both (λ (t : Turn). Seeded (t .generator)) (eqb (s .discipline) firstCome) seeded
+    (draw-seeded (s .side .generator) _ seeded)
 turnBy-seeded rule2 s seeded = draw-seeded (s .side .generator) _ seeded
 turnBy-seeded rule3 s seeded = seeded
 

@@ -1,6 +1,6 @@
--- Laws of the sample, and the claims of specs/Evenness on its steps. The span is what is left of all values without the remainder; the
--- target lies below the sum; the generator is stepped once, and once more for each throw, of which there are at most eight. By
--- induction on the throws that are left. Assumes nothing.
+-- Laws of the sample, and the claims of specs/Evenness on its steps. The span is what is left of all values without the
+-- remainder; the target lies below the sum; the generator is stepped once, and once more for each throw, of which there are at
+-- most eight. By induction on the throws that are left. Assumes nothing.
 use Prim.Native.Nat.{ℕ, zero, suc, _+_, _-_, _/_, _%_, _^_, _≤_, _<_}
 use mathlib.Core.Path.{_≡_, refl, ap}
 use mathlib.Core.Bool.{Bool, true, false, not}
@@ -31,7 +31,8 @@ evenSpan-high sum value some room = omega (arith, evenSpan-rest sum, mod-lt (2 ^
 
 -- a value that counts, the last one, which counts as it is, and one that is thrown away
 module _ (sum steps value : ℕ) where
-  pub sampleFrom-counted : (left : ℕ) → ltb value (evenSpan sum) ≡ true → sampleFrom sum left steps value ≡ counted sum steps value
+  pub sampleFrom-counted : (left : ℕ) → ltb value (evenSpan sum) ≡ true
+      → sampleFrom sum left steps value ≡ counted sum steps value
   unfolding sampleFrom
   sampleFrom-counted zero e = refl
   sampleFrom-counted (suc left) e = rw e

@@ -48,14 +48,15 @@ module _ (S : Scheduler) (h : History) (c : Event) (place : ℕ) where
 alwaysDummy-differs : Differs alwaysDummy
 unfolding computed unsent shownAt
 alwaysDummy-differs =
-    told-apart alwaysDummy (opening (Join 2 privateKind 300 0 ∷ arrival 2 17 64 ∷ [])) Tick 0 dummy real refl refl (λ e. omega arith)
+    told-apart alwaysDummy (opening (Join 2 privateKind 300 0 ∷ arrival 2 17 64 ∷ [])) Tick 0 dummy real refl refl
+    (λ e. omega arith)
 
 -- two packets of 2 wait, and the second tick idles
 laterIdle-differs : Differs laterIdle
 unfolding computed unsent idleOnceTicked shownAt
 laterIdle-differs =
-    told-apart laterIdle (opening (Join 2 privateKind 300 0 ∷ arrival 2 17 64 ∷ arrival 2 18 64 ∷ Tick ∷ [])) Tick 0 idle real refl refl
-    (λ e. omega arith)
+    told-apart laterIdle (opening (Join 2 privateKind 300 0 ∷ arrival 2 17 64 ∷ arrival 2 18 64 ∷ Tick ∷ [])) Tick 0 idle real
+    refl refl (λ e. omega arith)
 
 -- 31 packets wait, and there is a place for one more
 fullEarly-differs : Differs fullEarly
@@ -73,7 +74,8 @@ drainedEarly-differs =
 lowestId-differs : Differs lowestId
 unfolding computed lowestTurn shownAt
 lowestId-differs =
-    told-apart lowestId (opening (Join 2 privateKind 300 0 ∷ Join 5 privateKind 100 0 ∷ [])) Tick 1 2 5 refl refl (λ e. omega arith)
+    told-apart lowestId (opening (Join 2 privateKind 300 0 ∷ Join 5 privateKind 100 0 ∷ [])) Tick 1 2 5 refl refl
+    (λ e. omega arith)
 
 -- 2's packet is gone when its slot comes
 notKept-differs : Differs notKept

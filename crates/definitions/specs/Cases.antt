@@ -121,7 +121,8 @@ cases =
 unfoldable pub taken : ℕ → ℕ → List ℕ
 taken sum seed = sample sum seed .target ∷ sample sum seed .generator ∷ sample sum seed .steps ∷ []
 
--- S-1 of paper 02, reckoned from its words. The seeds are those that give the value wanted; no script has a sum that throws away every second value.
+-- S-1 of paper 02, reckoned from its words. The seeds are those that give the value wanted;
+-- no script has a sum that throws away every second value.
 unfoldable pub samples : List Case
 samples =
     -- the first value is the highest: it is thrown away where the sum does not divide 4294967296

@@ -85,7 +85,8 @@ module _ (s : State) (id : ℕ) where
 
   -- "The old rate is taken off before the threshold is checked."
   unfoldable pub changeChecks : ℕ → ℕ → ℕ → List Check
-  changeChecks kind rate burst = activeChecks (termChecks (s .threshold) (rates (s .clients) - s .clients id .rate) kind rate burst)
+  changeChecks kind rate burst =
+      activeChecks (termChecks (s .threshold) (rates (s .clients) - s .clients id .rate) kind rate burst)
 
   unfoldable pub leaveChecks : List Check
   leaveChecks = activeChecks []

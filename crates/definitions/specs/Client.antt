@@ -1,5 +1,5 @@
--- A client: its kind, its rate and its bucket, which it has once (paper 01, "Clients, queues, pools"). Queue and pool are its stock.
--- The bucket is the level, the rate at which it is refilled and the burst that caps it.
+-- A client: its kind, its rate and its bucket, which it has once (paper 01, "Clients, queues, pools"). Queue and pool are its
+-- stock. The bucket is the level, the rate at which it is refilled and the burst that caps it.
 use Prim.Native.Nat.{ℕ, _+_, _-_, _*_, min}
 use mathlib.Core.Bool.{Bool, true, false, cond, not}
 use lib.Dec.{eqb}

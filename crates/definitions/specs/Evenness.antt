@@ -34,8 +34,8 @@ pub record Sampled (sum generator least most : ℕ) (s : Sample) : Type 0 where
 abbrev pub Sampling : Type 0
 Sampling = (sum generator : ℕ) → Sampled sum generator 1 (1 + throws) (sample sum generator)
 
--- With a sum of rates, so one from 1 to 1024, no two values in a row are thrown away, if the first has 32 bits. The first entry of
--- `samples` (Cases) takes two steps.
+-- With a sum of rates, so one from 1 to 1024, no two values in a row are thrown away, if the first has 32 bits.
+-- The first entry of `samples` (Cases) takes two steps.
 abbrev pub AtMostTwoSteps : Type 0
 AtMostTwoSteps =
     (sum generator : ℕ) → 0 < sum → sum ≤ shares → stepped generator < 2 ^ 32 → sample sum generator .steps ≤ 2

@@ -1,5 +1,6 @@
 -- What happens to a core: a call, with all that it is given (paper 01, "The calls"). Any number may stand anywhere.
--- Histories are made of these, and not of what the code hands from function to function: an event may hold what no value of the code does.
+-- Histories are made of these, and not of what the code hands from function to function:
+-- an event may hold what no value of the code does.
 use Prim.Native.Nat.{ℕ}
 use Rattle.definitions.specs.declared.Packet.{Packet}
 

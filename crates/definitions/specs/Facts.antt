@@ -1,6 +1,6 @@
 -- What is easy to get wrong about the core, one small fact each, under the words of the papers that it stands for.
--- The facts on ticks, changes and checks are claimed of any state, reached or not; the two on turns of any state within the limits, and
--- so of every state that a history reaches (Limits). Some have instances among P4 and P7 to P10 (Cases).
+-- The facts on ticks, changes and checks are claimed of any state, reached or not; the two on turns of any state within the
+-- limits, and so of every state that a history reaches (Limits). Some have instances among P4 and P7 to P10 (Cases).
 use Prim.Native.Nat.{ℕ, _+_, _-_, _*_, _≤_, _<_, min}
 use mathlib.Core.Path.{_≡_}
 use mathlib.Core.Logic.{_≢_}
@@ -29,7 +29,8 @@ use Rattle.definitions.specs.Bound.{isOpen}
 
 -- the tick: what steps the generator, whom rule 2 picks, what is refilled
 pub record TickFacts : Type 0 where
-  -- "Discipline 0: the packet accepted earliest among all indifferent clients": nobody is drawn, and the generator stays as it is.
+  -- "Discipline 0: the packet accepted earliest among all indifferent clients": nobody is drawn,
+  -- and the generator stays as it is.
   pub tick-rule1-firstCome : (s : State)
       → ruleOf s ≡ rule1
       → s .discipline ≡ firstCome
@@ -107,7 +108,8 @@ pub record ChangeFacts : Type 0 where
 
 -- the order of the checks, and refusals
 pub record CheckFacts : Type 0 where
-  -- "32 packets wait already; the packet is dropped": 14 comes before 15 and takes no token; whatever the level, the core is as it was.
+  -- "32 packets wait already; the packet is dropped": 14 comes before 15 and takes no token; whatever the level,
+  -- the core is as it was.
   pub arrive-full : (s : State) (id : ℕ) (p : Packet)
       → ltb id ids ≡ true
       → isActive (s .clients id .kind) ≡ true
@@ -136,14 +138,15 @@ pub record Contender (c : Client) (k : Stock) : Type 0 where
   pub behind : List Packet
   pub waiting : k .queue ≡ packet ∷ behind
 
--- A turn by rule 1: "If an indifferent client has a packet, one goes out." Under either discipline the one picked is such a client,
--- and its first packet goes out, without padding; no dummy leaves by rule 1, and no slot idles.
+-- A turn by rule 1: "If an indifferent client has a packet, one goes out." Under either discipline the one picked is such a
+-- client, and its first packet goes out, without padding; no dummy leaves by rule 1, and no slot idles.
 abbrev pub Rule1Sends : Type 0
 Rule1Sends =
     (s : State)
     → StateLimits s
     → ruleOf s ≡ rule1
-    → (picked : Contender (s .clients (turn s .id)) (s .side .stocks (turn s .id))) × (onTick s .answer ≡ Slot (Real (turn s .id) (picked .packet) 0))
+    → (picked : Contender (s .clients (turn s .id)) (s .side .stocks (turn s .id)))
+    × (onTick s .answer ≡ Slot (Real (turn s .id) (picked .packet) 0))
 
 -- A turn by rule 2: "if a private client is active, a draw among all private clients". The one picked is private.
 abbrev pub Rule2Private : Type 0

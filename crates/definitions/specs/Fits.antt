@@ -52,7 +52,8 @@ abbrev pub trial : ℕ → ℕ → History
 trial seed handle =
     start then Open shares firstCome seed then Join 2 privateKind 300 0 then Tick then Arrive 2 (long handle)
 
--- With the highest seed and the highest handle it fits. After it a core runs, whose generator the tick has stepped, and the packet waits.
+-- With the highest seed and the highest handle it fits. After it a core runs, whose generator the tick has stepped,
+-- and the packet waits.
 pub record FitsMet : Type 0 where
   pub fits : HistoryFits (trial numberLimit handleLimit)
   pub generator : generatorOf (after scheduler (trial numberLimit handleLimit)) ≡ 253983

@@ -1,6 +1,6 @@
--- What demand 3 rules out: the leaks among paper 01's "Faults a builder may like". Each is a scheduler that is the defined one but
--- for that fault. The list's last line, "Refilling only the client picked, or taking a token for a packet refused with 14", goes by
--- nothing that a private neighbour sends or loads, and is not among them.
+-- What demand 3 rules out: the leaks among paper 01's "Faults a builder may like". Each is a scheduler that is the defined one
+-- but for that fault. The list's last line, "Refilling only the client picked, or taking a token for a packet refused with 14",
+-- goes by nothing that a private neighbour sends or loads, and is not among them.
 use Prim.Native.Nat.{ℕ, suc, _+_, _%_}
 use mathlib.Core.Bool.{Bool, true, false, cond, _&&_}
 use mathlib.Core.List.{List, [], _++_}

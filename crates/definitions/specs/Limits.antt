@@ -50,7 +50,8 @@ pub record QueueLimits (queue : List Packet) : Type 0 where
   pub queueHigh : length queue ≤ places
   pub queueLengths : LengthsFit queue
 
--- "A private client has a pool, a count of dummies from 0 to 255." An indifferent one has no dummies, and an inactive id has nothing.
+-- "A private client has a pool, a count of dummies from 0 to 255." An indifferent one has no dummies,
+-- and an inactive id has nothing.
 abbrev pub PoolBy : Kind → ℕ → Type 0
 PoolBy absent pool = pool ≡ 0
 PoolBy indifferent pool = pool ≡ 0

@@ -104,7 +104,8 @@ answersOf chosen which = log chosen which (λ d. d .answer)
 -- one client's answers, departures and drops, at those places where `when` holds
 pub record SameDealings (chosen id : ℕ) (when : Trace → Bool) (t u : Trace) : Type 0 where
   -- "A client's answers are what its own calls get, accepted or the number"
-  pub answers : answersOf chosen (λ p d. when p && names id (d .event)) t ≡ answersOf chosen (λ p d. when p && names id (d .event)) u
+  pub answers : answersOf chosen (λ p d. when p && names id (d .event)) t
+      ≡ answersOf chosen (λ p d. when p && names id (d .event)) u
   pub departures : answersOf chosen (λ p d. when p && departure id d) t ≡ answersOf chosen (λ p d. when p && departure id d) u
   pub drops : answersOf chosen (λ p d. when p && drop id d) t ≡ answersOf chosen (λ p d. when p && drop id d) u
 

@@ -7,7 +7,8 @@ use lib.Dec.{ltb}
 use Rattle.definitions.specs.Sizes.{throws}
 use Rattle.definitions.specs.Generator.{stepped}
 
--- "The draw now gives the target, the new generator state and the number of steps taken." Beside them stands the sum of the rates in it.
+-- "The draw now gives the target, the new generator state and the number of steps taken."
+-- Beside them stands the sum of the rates in it.
 pub record Sample : Type 0 where
   pub target : ℕ
   pub sum : ℕ

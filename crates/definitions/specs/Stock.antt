@@ -1,5 +1,5 @@
--- What a client has to send: its queue and its pool (paper 01, "Clients, queues, pools"). They belong together, as each side of a box
--- has its own (paper 02, S-11).
+-- What a client has to send: its queue and its pool (paper 01, "Clients, queues, pools"). They belong together,
+-- as each side of a box has its own (paper 02, S-11).
 use Prim.Native.Nat.{ℕ, pred, _+_}
 use mathlib.Core.Bool.{Bool, true, false, cond}
 use mathlib.Core.List.{List, [], _∷_, _++_, tail}

@@ -1,6 +1,6 @@
--- The versions that "have to break the contract" (paper 01, "Conditions of acceptance"), each written down as a scheduler that deals
--- in that wrong way with the calls that it is about, and with all others as they are defined. `AllDiffer` claims of each that some
--- history shows it: a call behind it gets another answer than the calls define.
+-- The versions that "have to break the contract" (paper 01, "Conditions of acceptance"), each written down as a scheduler that
+-- deals in that wrong way with the calls that it is about, and with all others as they are defined. `AllDiffer` claims of each
+-- that some history shows it: a call behind it gets another answer than the calls define.
 use Prim.Native.Nat.{ℕ, suc}
 use mathlib.Core.Logic.{_≢_}
 use mathlib.Core.Bool.{Bool, false, cond, not, _||_}

@@ -1,3 +1,3 @@
 pub mod Samples
-pub mod Sums
-pub mod Walk
+pub mod EqualWeights
+pub mod MarksWalk

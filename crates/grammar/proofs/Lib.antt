@@ -1,9 +1,9 @@
-pub mod Rules
-pub mod Matching
+pub mod AllForms
+pub mod TemplateSteps
 pub mod Decimals
 pub mod ReadBack
 pub mod RoundTrip
 pub mod Lines
-pub mod Splits
+pub mod LineSplits
 pub mod Sheets
 pub mod Examples

@@ -12,7 +12,7 @@ use lib.ListN.{length}
 use Rattle.grammar.specs.Numerals.{isDigit, decimal}
 use Rattle.grammar.specs.Templates.{isGap, limits, gaps, filled, withNumber, matched}
 use Rattle.grammar.proofs.Decimals.{Bare, decimal-leading, decimal-behind, decimal-numeral, decimal-value}
-use Rattle.grammar.proofs.Matching.{gap-fits, byte-fits, byte-misfits}
+use Rattle.grammar.proofs.TemplateSteps.{gap-fits, byte-fits, byte-misfits}
 
 -- whether a gap may stand before some bytes of a template: they begin with neither a digit nor a gap
 unfoldable pub clear : List ℕ → Bool

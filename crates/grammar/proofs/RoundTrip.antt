@@ -8,7 +8,7 @@ use Rattle.definitions.specs.Checks.{within}
 use Rattle.grammar.specs.Numerals.{isDigit}
 use Rattle.grammar.specs.Grammar.{Rule, rules, sized, parsedBy, parsed}
 use Rattle.grammar.specs.RoundTrip.{written, Takes, RoundTrip, TooLarge}
-use Rattle.grammar.proofs.Rules.{forms}
+use Rattle.grammar.proofs.AllForms.{forms}
 use Rattle.grammar.proofs.ReadBack.{clear, spaced, apart, filled-matched, apart-matched}
 
 -- whether a rule differs from each of some others, and each of some rules from those before it

@@ -1,5 +1,5 @@
--- Demand 3 on paper, from demand 3: a printout falls into the lines that the history's calls print, one for each line of the text,
--- so what is noted of a sheet is the log of that history, printed. Assumes nothing.
+-- Demand 3 on paper, from demand 3: a printout falls into the lines that the history's calls print, one for each line of the
+-- text, so what is noted of a sheet is the log of that history, printed. Assumes nothing.
 use Prim.Native.Nat.{ℕ, zero, suc, _≤_}
 use mathlib.Core.Path.{_≡_, refl, sym, ap, _∙_}
 use mathlib.Core.Bool.{Bool, true, false, cond}
@@ -12,6 +12,7 @@ use borrow.Author.Tests.{eqb-true, eqb-false, le-ltb}
 use Rattle.definitions.specs.declared.Answer.{Answer}
 use Rattle.definitions.specs.declared.Answer.the-variants.{Refused}
 use Rattle.definitions.specs.State.{Core}
+use Rattle.definitions.specs.Checks.{Result}
 use Rattle.definitions.specs.History.{History, start, _then_, Place, end, before, calls, Dealing, Trace, Holdings, scheduler, after, answerAt, dealingAt, traceOf}
 use Rattle.definitions.specs.Sameness.{kept, log, answersOf, SameDealings, LooksSame, Sameness}
 use Rattle.definitions.proofs.Sameness.Theorem.{sameness}
@@ -23,7 +24,7 @@ use Rattle.grammar.specs.Calls.{eventOf}
 use Rattle.grammar.specs.Printout.{printed, answered, printedFrom, printout}
 use Rattle.grammar.specs.Lines.{lines, held, heard, toldFrom, told, printedLine, printedLines, LinesPrinted}
 use Rattle.grammar.specs.Sheet.{Sheet, sheet, noted, notedFrom, printedOf, SameLines, PrintsSame, SamenessOnPaper}
-use Rattle.grammar.proofs.Splits.{OneLine, closed-line, open-line, held-closed, held-open, printed-line}
+use Rattle.grammar.proofs.LineSplits.{OneLine, closed-line, open-line, held-closed, held-open, printed-line}
 
 -- ---- the printout falls into the lines that the history's calls print
 
@@ -75,16 +76,21 @@ sheet-printed h line (b ∷ text) whole = go (eqb b lineFeed) refl
     (λ l. sheet-printed (heard h l) [] text tt)
     (λ other. sheet-printed h (line ++ (b ∷ [])) text (unbroken-append line b whole other))
   where
+    -- what the line gets, once it is closed
+    read : Result
+    read = answered (after scheduler h) (parsed line)
+
     go : (t : Bool) → eqb b lineFeed ≡ t
         → ((l : Line) → printedFrom (after scheduler (heard h l)) [] text ≡ flatten (printedLines (heard h l) (lines text)))
-        → (b ≢ lineFeed → printedFrom (after scheduler h) (line ++ (b ∷ [])) text ≡ flatten (printedLines h (lines ((line ++ (b ∷ [])) ++ text))))
+        → (b ≢ lineFeed → printedFrom (after scheduler h) (line ++ (b ∷ [])) text
+        ≡ flatten (printedLines h (lines ((line ++ (b ∷ [])) ++ text))))
         → elim t [
-          | true ↦ printed (answered (after scheduler h) (parsed line) .answer) ++ printedFrom (answered (after scheduler h) (parsed line) .core) [] text
+          | true ↦ printed (read .answer) ++ printedFrom (read .core) [] text
           | false ↦ printedFrom (after scheduler h) (line ++ (b ∷ [])) text
         ]
         ≡ flatten (printedLines h (lines (line ++ b ∷ text)))
     go true e later joins =
-        ap (λ (l : List ℕ). l ++ printedFrom (answered (after scheduler h) (parsed line) .core) [] text) (line-printed h (parsed line))
+        ap (λ (l : List ℕ). l ++ printedFrom (read .core) [] text) (line-printed h (parsed line))
         ∙ ap (λ (l : List ℕ). printedLine h (parsed line) ++ l)
         (ap (λ (core : Core). printedFrom core [] text) (line-heard h (parsed line)) ∙ later (parsed line))
         ∙ sym (closed-printed h line text whole)
@@ -108,7 +114,8 @@ lines-again h (l ∷ ls) =
 pub lines-printed : LinesPrinted
 unfolding LinesPrinted after printout
 lines-printed text short =
-    ap lines (rw (printout, le-ltb textLimit (length text) short) (sheet-printed start [] text tt)) ∙ lines-again start (lines text)
+    ap lines (rw (printout, le-ltb textLimit (length text) short) (sheet-printed start [] text tt))
+    ∙ lines-again start (lines text)
 
 -- ---- what is noted of a sheet is a log, from the first to the last
 
@@ -128,7 +135,8 @@ module _ (chosen : ℕ) (which : Trace → Dealing → Bool) where
   printedLog : History → List (ℕ × List ℕ)
   printedLog h = log chosen which (λ d. printed (d .answer)) (traceOf scheduler h)
 
-  line-noted : (h : History) (l : Line) → reverseAux (noted chosen which h l (printedLine h l)) (printedLog h) ≡ printedLog (heard h l)
+  line-noted : (h : History) (l : Line)
+      → reverseAux (noted chosen which h l (printedLine h l)) (printedLog h) ≡ printedLog (heard h l)
   unfolding noted printedLine heard printedLog log traceOf dealingAt
   line-noted h (Form call) =
       noted-if (which (traceOf scheduler h) (dealingAt scheduler h (eventOf call)))
@@ -141,9 +149,9 @@ module _ (chosen : ℕ) (which : Trace → Dealing → Bool) where
   rows-noted h zero ls = refl
   rows-noted h (suc m) [] = refl
   rows-noted h (suc m) (l ∷ ls) =
-      reverseAux-append (noted chosen which h (held l) (printedLine h (held l)))
-      (notedFrom chosen which (heard h (held l)) (take m (rowsOf (heard h (held l)) ls))) (printedLog h)
-      ∙ ap (reverseAux (notedFrom chosen which (heard h (held l)) (take m (rowsOf (heard h (held l)) ls)))) (line-noted h (held l))
+      let later : List (ℕ × List ℕ) = notedFrom chosen which (heard h (held l)) (take m (rowsOf (heard h (held l)) ls)) in
+      reverseAux-append (noted chosen which h (held l) (printedLine h (held l))) later (printedLog h)
+      ∙ ap (reverseAux later) (line-noted h (held l))
       ∙ rows-noted (heard h (held l)) m ls
 
   log-printed : (h : History) → printedLog h ≡ map inPrint (answersOf chosen which (traceOf scheduler h))
@@ -157,7 +165,8 @@ module _ (chosen : ℕ) (which : Trace → Dealing → Bool) where
       answers : List (ℕ × Answer)
       answers = answersOf chosen which (traceOf scheduler h)
 
-      go : (b : Bool) → printedLog h ≡ map inPrint answers → cond b (inPrint entry ∷ printedLog h) (printedLog h) ≡ map inPrint (cond b (entry ∷ answers) answers)
+      go : (b : Bool) → printedLog h ≡ map inPrint answers
+          → cond b (inPrint entry ∷ printedLog h) (printedLog h) ≡ map inPrint (cond b (entry ∷ answers) answers)
       go true e = ap (λ (l : List (ℕ × List ℕ)). inPrint entry ∷ l) e
       go false e = e
 
@@ -167,7 +176,8 @@ module _ (chosen : ℕ) (which : Trace → Dealing → Bool) where
       ≡ map inPrint (answersOf chosen which (traceOf scheduler (told (take m (lines text)))))
   unfolding LinesPrinted
   sheet-noted text short m =
-      ap (λ (paper : List (List ℕ)). reverse (printedOf chosen which (take m (zip (lines text) paper)))) (lines-printed text short)
+      ap (λ (paper : List (List ℕ)). reverse (printedOf chosen which (take m (zip (lines text) paper))))
+      (lines-printed text short)
       ∙ unfold rowsOf printedLog log traceOf in rows-noted start m (lines text)
       ∙ log-printed (told (take m (lines text)))
 
@@ -220,5 +230,5 @@ pub sameness-on-paper : SamenessOnPaper
 unfolding SamenessOnPaper Sameness
 sameness-on-paper chosen a b shortA shortB e m n counts =
     prints-same chosen a b (omega arith) (omega arith) m n
-    (sameness chosen (told (lines a)) (told (lines b)) e (told (take m (lines a))) (told (take n (lines b))) (told-place start m (lines a))
-    (told-place start n (lines b)) counts)
+    (sameness chosen (told (lines a)) (told (lines b)) e (told (take m (lines a))) (told (take n (lines b)))
+    (told-place start m (lines a)) (told-place start n (lines b)) counts)

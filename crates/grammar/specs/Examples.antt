@@ -46,11 +46,14 @@ pub record CallAndSilence : Type 0 where
       ≡ bytes "(ok)\n(ok)\n(ok)\n(ok)\n(ok)\n(slot (real 3 90 1518 0))\n(slot (idle 5))\n(slot (idle 2))\n"
   pub chosenCalls : printedOf 5 (λ t d. names 5 (d .event)) (sheet call (printout call)) ≡ (2, bytes "(ok)\n") ∷ []
   pub chosenSlots : printedOf 5 (λ t d. departure 5 d) (sheet call (printout call)) ≡ (6, bytes "(slot (idle 5))\n") ∷ []
-  pub indifferentCalls : printedOf 5 (λ t d. indifferentAt 3 t && names 3 (d .event)) (sheet call (printout call)) ≡ (4, bytes "(ok)\n") ∷ []
+  pub indifferentCalls : printedOf 5 (λ t d. indifferentAt 3 t && names 3 (d .event)) (sheet call (printout call))
+      ≡ (4, bytes "(ok)\n") ∷ []
   pub indifferentSlots : printedOf 5 (λ t d. indifferentAt 3 t && departure 3 d) (sheet call (printout call))
       ≡ (5, bytes "(slot (real 3 90 1518 0))\n") ∷ []
-  pub neighbourInCall : printedOf 5 (λ t d. departure 2 d) (sheet call (printout call)) ≡ (7, bytes "(slot (real 2 17 64 1454))\n") ∷ []
-  pub neighbourInSilence : printedOf 5 (λ t d. departure 2 d) (sheet silence (printout silence)) ≡ (7, bytes "(slot (idle 2))\n") ∷ []
+  pub neighbourInCall : printedOf 5 (λ t d. departure 2 d) (sheet call (printout call))
+      ≡ (7, bytes "(slot (real 2 17 64 1454))\n") ∷ []
+  pub neighbourInSilence : printedOf 5 (λ t d. departure 2 d) (sheet silence (printout silence))
+      ≡ (7, bytes "(slot (idle 2))\n") ∷ []
 
 -- Why the texts have at most 60,000 bytes: a longer one may keep the same calls, and prints 18 alone.
 abbrev pub tooLong : List ℕ

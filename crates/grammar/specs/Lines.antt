@@ -1,5 +1,5 @@
--- "Each line prints one line" (paper 01, "Script and printout"): the lines of a text, the history that they tell, one call for each
--- that holds a form, and the lines of its printout, of which the n-th answers the n-th of a text of at most 60,000 bytes.
+-- "Each line prints one line" (paper 01, "Script and printout"): the lines of a text, the history that they tell, one call for
+-- each that holds a form, and the lines of its printout, of which the n-th answers the n-th of a text of at most 60,000 bytes.
 use Prim.Native.Nat.{ℕ, _≤_}
 use mathlib.Core.Path.{_≡_}
 use mathlib.Core.Bool.{true, false, cond}

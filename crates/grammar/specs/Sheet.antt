@@ -1,6 +1,6 @@
--- Demand 3 on paper (paper 01, "Two histories"): a text and its printout side by side, line by line. What is compared is bytes of two
--- printouts. Which private neighbour a slot picked, and what clients hold, only `Sameness` compares: the line of such a slot tells
--- more than the pick, and the rest is not printed.
+-- Demand 3 on paper (paper 01, "Two histories"): a text and its printout side by side, line by line. What is compared is bytes of
+-- two printouts. Which private neighbour a slot picked, and what clients hold, only `Sameness` compares: the line of such a slot
+-- tells more than the pick, and the rest is not printed.
 use Prim.Native.Nat.{ℕ, _≤_}
 use mathlib.Core.Path.{_≡_}
 use mathlib.Core.Bool.{Bool, true, cond, _&&_}
@@ -31,7 +31,8 @@ module _ (chosen : ℕ) where
     -- of a line that holds such a call, the printed line beside it, with the call's number among the kept calls
     unfoldable pub noted : History → Line → List ℕ → List (ℕ × List ℕ)
     noted h (Form call) answer =
-        cond (which (traceOf scheduler h) (dealingAt scheduler h (eventOf call))) ((calls (kept chosen (traceOf scheduler h)), answer) ∷ []) []
+        cond (which (traceOf scheduler h) (dealingAt scheduler h (eventOf call)))
+        ((calls (kept chosen (traceOf scheduler h)), answer) ∷ []) []
     noted h (Unread n) answer = []
 
     unfoldable pub notedFrom : History → Sheet → List (ℕ × List ℕ)
@@ -44,7 +45,8 @@ module _ (chosen : ℕ) where
 
 -- one client's printed lines, at those places where `when` holds: those of its own calls, its drops among them, and of its slots
 pub record SameLines (chosen id : ℕ) (when : Trace → Bool) (x y : Sheet) : Type 0 where
-  pub ownCalls : printedOf chosen (λ t d. when t && names id (d .event)) x ≡ printedOf chosen (λ t d. when t && names id (d .event)) y
+  pub ownCalls : printedOf chosen (λ t d. when t && names id (d .event)) x
+      ≡ printedOf chosen (λ t d. when t && names id (d .event)) y
   pub slots : printedOf chosen (λ t d. when t && departure id d) x ≡ printedOf chosen (λ t d. when t && departure id d) y
 
 pub record PrintsSame (chosen : ℕ) (x y : Sheet) : Type 0 where

@@ -1,3 +1,3 @@
-pub mod Search
+pub mod IdSearch
 pub mod Bits
-pub mod Words
+pub mod FirstMark

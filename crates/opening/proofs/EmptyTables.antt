@@ -16,8 +16,8 @@ use Rattle.definitions.proofs.Laws.Sums.{sumBelow-zero}
 use Rattle.marks.proofs.Bits.{marked-none}
 use Rattle.order.specs.Order.{sentinel, linkCount}
 use Rattle.order.specs.Owner.{owner, placesOf}
-use Rattle.order.proofs.Operations.{new-sound, new-ordered}
-use Rattle.order.proofs.Walk.{ordered-walked}
+use Rattle.order.proofs.PushAndUnlink.{new-sound, new-ordered}
+use Rattle.order.proofs.OrderWalk.{ordered-walked}
 use Rattle.tables.specs.declared.Control.{Control}
 use Rattle.tables.specs.Tables.{Tables, tables, rateColumn, burstColumn, levelColumn, termColumns}
 use Rattle.tables.specs.Tables.{poolColumn, headColumn, countColumn, stockColumns, entry, field, ring}

@@ -1,7 +1,7 @@
-pub mod Table
-pub mod Lists
-pub mod Links
-pub mod Operations
-pub mod Walk
+pub mod JoinedLinks
+pub mod DistinctLists
+pub mod OrderedLinks
+pub mod PushAndUnlink
+pub mod OrderWalk
 pub mod Owner
-pub mod Taken
+pub mod FirstPlaceTaken

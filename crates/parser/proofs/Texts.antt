@@ -16,7 +16,7 @@ use Rattle.grammar.specs.declared.Line.{Line}
 use Rattle.grammar.specs.declared.Line.the-variants.{Refused}
 use Rattle.grammar.specs.Templates.{isGap, limits, matched}
 use Rattle.grammar.specs.Grammar.{Rule, behindText, sized, orElse, parsedBy}
-use Rattle.grammar.proofs.Matching.{byte-fits, byte-misfits}
+use Rattle.grammar.proofs.TemplateSteps.{byte-fits, byte-misfits}
 use Rattle.parser.specs.Readings.{verdict, numbersRoom, Reads}
 use Rattle.parser.specs.Texts.{starts, plain}
 

@@ -18,7 +18,7 @@ use Rattle.tables.specs.Tables.{Tables, countAt}
 use Rattle.tables.specs.Controls.{withWaiting}
 use Rattle.tables.specs.Meaning.{clientsOf, stockAt, stocksOf, sideOf, stateOf}
 use Rattle.tables.specs.Invariant.{SoundCore}
-use Rattle.tables.proofs.Ring.{queue-length}
+use Rattle.tables.proofs.QueueRing.{queue-length}
 use Rattle.tables.proofs.Touch.{stock-own}
 use Rattle.settings.specs.Writes.{Room, Ready}
 use Rattle.settings.proofs.Rates.{limits-own, rate-held}

@@ -16,12 +16,12 @@ use Rattle.definitions.proofs.Laws.Rates.{held}
 use Rattle.marks.specs.Marks.{marked}
 use Rattle.order.specs.Order.{Sound, Ordered}
 use Rattle.order.specs.Owner.{owner}
-use Rattle.order.proofs.Walk.{ordered-walked}
+use Rattle.order.proofs.OrderWalk.{ordered-walked}
 use Rattle.tables.specs.declared.Control.{Control}
 use Rattle.tables.specs.Tables.{Tables, tables, poolColumn, headColumn, countColumn, field, countAt, ring}
 use Rattle.tables.specs.Meaning.{kindAt, packetAt, queueAt, clientAt, stockAt, stocksOf, orderOf, sideOf}
 use Rattle.tables.specs.Invariant.{Shape}
-use Rattle.tables.proofs.Ring.{queue-length}
+use Rattle.tables.proofs.QueueRing.{queue-length}
 use Rattle.tables.proofs.Touch.{Touch, touch-stocks, touch-shape, stock-own, rates-kept}
 use Rattle.settings.specs.Writes.{withBare, Quiet, Withdrawn, Emptied}
 use Rattle.settings.proofs.Entries.{bare-length, bare-own, bare-only}

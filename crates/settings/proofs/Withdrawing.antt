@@ -8,7 +8,7 @@ use Rattle.definitions.specs.State.{without}
 use Rattle.order.specs.Order.{Ordered}
 use Rattle.order.specs.Owner.{owner, placesOf}
 use Rattle.order.proofs.Owner.{owner-without-none, placesOf-none}
-use Rattle.order.proofs.Taken.{Taken, placesOf-taken, Emptying, emptying-start, emptying-step, emptying-done}
+use Rattle.order.proofs.FirstPlaceTaken.{Taken, placesOf-taken, Emptying, emptying-start, emptying-step, emptying-done}
 use Rattle.tables.specs.Tables.{ring}
 use Rattle.settings.specs.Writes.{Withdrawn}
 

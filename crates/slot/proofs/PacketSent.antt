@@ -24,16 +24,16 @@ use Rattle.definitions.proofs.Laws.Rates.{held}
 use Rattle.marks.specs.Marks.{marked}
 use Rattle.order.specs.Order.{sentinel, Ordered}
 use Rattle.order.specs.Owner.{owner, placesOf}
-use Rattle.order.proofs.Walk.{ordered-walked}
-use Rattle.order.proofs.Taken.{placesOf-taken, taken-others, taken-withoutFirst}
+use Rattle.order.proofs.OrderWalk.{ordered-walked}
+use Rattle.order.proofs.FirstPlaceTaken.{placesOf-taken, taken-others, taken-withoutFirst}
 use Rattle.tables.specs.declared.Control.{Control}
 use Rattle.tables.specs.Tables.{Tables, tables, poolColumn, headColumn, countColumn, stockColumns, entry, written, field, poolAt, headAt, countAt, ring}
 use Rattle.tables.specs.Controls.{withWaiting}
 use Rattle.tables.specs.Meaning.{kindAt, packetAt, queueAt, clientAt, clientsOf, stockAt, stocksOf, orderOf, sideOf, stateOf}
 use Rattle.tables.specs.Invariant.{Shape}
-use Rattle.tables.proofs.Marking.{kind-indifferent, kind-private}
+use Rattle.tables.proofs.MarkedKinds.{kind-indifferent, kind-private}
 use Rattle.tables.proofs.Fields.{only-set, field-own}
-use Rattle.tables.proofs.Ring.{placeOf, place-within, remainder-small, ring-pop-remainder}
+use Rattle.tables.proofs.QueueRing.{placeOf, place-within, remainder-small, ring-pop-remainder}
 use Rattle.tables.proofs.Touch.{Touch, touch-stocks, touch-shape, waits-here, client-own, stock-own, rates-kept}
 use Rattle.slot.specs.Sends.{Settled, popped, Unlinked, Sender, stateAfter, Spent}
 use Rattle.slot.proofs.Turns.{order-owners}

@@ -16,7 +16,7 @@ use Rattle.tables.specs.declared.Control.{Control}
 use Rattle.tables.specs.Tables.{Tables, tables, rateColumn, burstColumn, levelAt}
 use Rattle.tables.specs.Meaning.{kindAt, packetAt, queueAt, clientAt, clientsOf, stockAt, stocksOf, orderOf, sideOf, stateOf}
 use Rattle.tables.specs.Invariant.{Shape}
-use Rattle.tables.proofs.Marking.{kind-indifferent}
+use Rattle.tables.proofs.MarkedKinds.{kind-indifferent}
 use Rattle.slot.specs.Buckets.{levelAfter, Refilled}
 use Rattle.slot.specs.Slots.{unfilled}
 

@@ -22,7 +22,7 @@ use Rattle.tables.specs.Tables.{Tables, countAt}
 use Rattle.tables.specs.Controls.{withGenerator}
 use Rattle.tables.specs.Meaning.{kindAt, clientAt, clientsOf, stockAt, stocksOf, orderOf, sideOf, stateOf}
 use Rattle.tables.specs.Invariant.{Shape}
-use Rattle.tables.proofs.Marking.{kind-indifferent}
+use Rattle.tables.proofs.MarkedKinds.{kind-indifferent}
 use Rattle.tables.proofs.Touch.{client-own, stock-own}
 use Rattle.slot.specs.declared.Choice.{Choice}
 use Rattle.slot.specs.declared.Sent.{Sent}

@@ -20,20 +20,20 @@ use Rattle.definitions.proofs.Laws.Sums.{sumBelow-plus, anyBelow-true}
 use Rattle.definitions.proofs.Limits.Turns.{contends-contender}
 use Rattle.generator.specs.declared.Generator.{Generator}
 use Rattle.marks.specs.Marks.{marked}
-use Rattle.marks.proofs.Search.{anyBelow-cong}
+use Rattle.marks.proofs.IdSearch.{anyBelow-cong}
 use Rattle.draw.specs.Weights.{weightAt}
 use Rattle.draw.specs.Samples.{SameSample, Undrawn}
-use Rattle.draw.proofs.Sums.{draw-cong}
+use Rattle.draw.proofs.EqualWeights.{draw-cong}
 use Rattle.draw.proofs.Samples.{same-draws, draw-steps}
 use Rattle.order.specs.Order.{frontOf}
 use Rattle.order.specs.Owner.{owner}
-use Rattle.order.proofs.Walk.{ordered-walked}
+use Rattle.order.proofs.OrderWalk.{ordered-walked}
 use Rattle.order.proofs.Owner.{front-earliest}
 use Rattle.tables.specs.declared.Control.{Control}
 use Rattle.tables.specs.Tables.{Tables, headAt, countAt, ring}
 use Rattle.tables.specs.Meaning.{packetAt, queueAt, clientAt, clientsOf, stockAt, stocksOf, orderOf, sideOf, stateOf}
 use Rattle.tables.specs.Invariant.{Shape, SoundCore}
-use Rattle.tables.proofs.Marking.{kind-indifferent, kind-private}
+use Rattle.tables.proofs.MarkedKinds.{kind-indifferent, kind-private}
 use Rattle.tables.proofs.Touch.{waits-here, client-own, stock-own}
 use Rattle.slot.specs.declared.Choice.{Choice}
 use Rattle.slot.specs.Turns.{numberOf, Chosen, DrawnAmong, HeldByBoth}

@@ -27,7 +27,7 @@ use Rattle.tables.specs.Meaning.{clientAt, clientsOf, stateOf, coreOf}
 use Rattle.tables.specs.Invariant.{Valid}
 use Rattle.tables.specs.Promise.{Meets}
 use Rattle.tables.proofs.Promises.{coreOf-opened, coreOf-shut}
-use Rattle.tables.proofs.Marking.{kind-indifferent}
+use Rattle.tables.proofs.MarkedKinds.{kind-indifferent}
 use Rattle.tables.proofs.Touch.{client-own}
 use Rattle.slot.specs.declared.Choice.{Choice}
 use Rattle.slot.specs.declared.Sent.{Sent}

@@ -1,5 +1,5 @@
--- The clients' table: what a store changes, and what it leaves. Two entries of the table are one only if they are the same
--- number of the same id. Assumes nothing.
+-- The fields of the ids in a table of columns: what a store changes, and what it leaves. Two entries are one only if they are
+-- the same column of the same id. Assumes nothing.
 use Prim.Native.Nat.{ℕ, zero, suc, _+_, _*_, _/_, _%_, _<_}
 use mathlib.Core.Path.{_≡_, refl, sym, ap, _∙_}
 use mathlib.Core.Logic.{_≢_}
@@ -15,41 +15,41 @@ use Rattle.definitions.proofs.Laws.Tests.{eqb-cases}
 use Rattle.order.specs.Owner.{owner}
 use Rattle.tables.specs.Tables.{field, ring}
 
--- the k-th number of an id stands at one entry alone
+-- column k of an id stands at one entry alone
 entry-field : (k m id j : ℕ) → id < ids → j < ids → k * ids + id ≡ m * ids + j → k ≡ m
 entry-field k m id j h l e = sym (digits-div k h) ∙ ap (λ (n : ℕ). n / ids) e ∙ digits-div m l
 
 entry-id : (k m id j : ℕ) → id < ids → j < ids → k * ids + id ≡ m * ids + j → id ≡ j
 entry-id k m id j h l e = sym (digits-mod k h) ∙ ap (λ (n : ℕ). n % ids) e ∙ digits-mod m l
 
-module _ (clients : List ℕ) (k id v : ℕ) where
+module _ (table : List ℕ) (k id v : ℕ) where
   -- the number that was stored
-  pub field-set-same : k * ids + id < length clients → field k (set clients (k * ids + id) v) id ≡ v
+  pub field-set-same : k * ids + id < length table → field k (set table (k * ids + id) v) id ≡ v
   unfolding field
-  field-set-same h = getD-set-same clients (k * ids + id) v 0 h
+  field-set-same h = getD-set-same table (k * ids + id) v 0 h
 
   module _ (h : id < ids) (m j : ℕ) (l : j < ids) where
-    -- another number of any id
-    pub field-set-field : m ≢ k → field m (set clients (k * ids + id) v) j ≡ field m clients j
+    -- another column of any id
+    pub field-set-field : m ≢ k → field m (set table (k * ids + id) v) j ≡ field m table j
     unfolding field
     field-set-field other =
-        getD-set-other clients (k * ids + id) (m * ids + j) v 0 (λ e. other (entry-field m k j id l h e))
+        getD-set-other table (k * ids + id) (m * ids + j) v 0 (λ e. other (entry-field m k j id l h e))
 
-    -- any number of another id
-    pub field-set-id : j ≢ id → field m (set clients (k * ids + id) v) j ≡ field m clients j
+    -- any column of another id
+    pub field-set-id : j ≢ id → field m (set table (k * ids + id) v) j ≡ field m table j
     unfolding field
     field-set-id other =
-        getD-set-other clients (k * ids + id) (m * ids + j) v 0 (λ e. other (entry-id m k j id l h e))
+        getD-set-other table (k * ids + id) (m * ids + j) v 0 (λ e. other (entry-id m k j id l h e))
 
--- every number of the id after a store: with k and m written out, the test computes
-pub field-own : (clients : List ℕ) (k m id v : ℕ) → id < ids → k * ids + id < length clients
-    → field m (set clients (k * ids + id) v) id ≡ cond (eqb m k) v (field m clients id)
-field-own clients k m id v below room =
-    eqb-cases (λ b. field m (set clients (k * ids + id) v) id ≡ cond b v (field m clients id)) m k
-    (λ e. rw e (field-set-same clients k id v room))
-    (field-set-field clients k id v below m id below)
+-- every column of the id after a store: with k and m written out, the test computes
+pub field-own : (table : List ℕ) (k m id v : ℕ) → id < ids → k * ids + id < length table
+    → field m (set table (k * ids + id) v) id ≡ cond (eqb m k) v (field m table id)
+field-own table k m id v below room =
+    eqb-cases (λ b. field m (set table (k * ids + id) v) id ≡ cond b v (field m table id)) m k
+    (λ e. rw e (field-set-same table k id v room))
+    (field-set-field table k id v below m id below)
 
--- two tables of clients that differ at one id alone
+-- two tables that differ at one id alone
 abbrev pub OnlyAt : ℕ → List ℕ → List ℕ → Type 0
 OnlyAt id xs ys = (m j : ℕ) → j < ids → j ≢ id → field m ys j ≡ field m xs j
 

@@ -38,8 +38,10 @@ module _ (before : Core) (done : Result) where
   checked-refused [] some = absurd (some refl)
   checked-refused (c ∷ cs) some = go (c .passed) some (checked-refused cs)
     where
-      go : (b : Bool) → cond b (firstFailed cs) (c .number) ≢ 0 → (firstFailed cs ≢ 0 → checked cs (unchanged before) done ≡ refused (firstFailed cs) before)
-          → cond b (checked cs (unchanged before) done) (refused (c .number) before) ≡ refused (cond b (firstFailed cs) (c .number)) before
+      go : (b : Bool) → cond b (firstFailed cs) (c .number) ≢ 0
+          → (firstFailed cs ≢ 0 → checked cs (unchanged before) done ≡ refused (firstFailed cs) before)
+          → cond b (checked cs (unchanged before) done) (refused (c .number) before)
+          ≡ refused (cond b (firstFailed cs) (c .number)) before
       go true n rest = rest n
       go false n rest = refl
 
@@ -49,7 +51,8 @@ module _ (before : Core) (done : Result) where
   checked-done [] k none = refl
   checked-done (c ∷ cs) k none = go (c .passed) (c .number) k none (λ j. checked-done cs j)
     where
-      go : (b : Bool) (n : ℕ) → T (not (eqb n 0) && numbered cs) → cond b (firstFailed cs) n ≡ 0 → (T (numbered cs) → firstFailed cs ≡ 0 → checked cs (unchanged before) done ≡ done)
+      go : (b : Bool) (n : ℕ) → T (not (eqb n 0) && numbered cs) → cond b (firstFailed cs) n ≡ 0
+          → (T (numbered cs) → firstFailed cs ≡ 0 → checked cs (unchanged before) done ≡ done)
           → cond b (checked cs (unchanged before) done) (refused n before) ≡ done
       go true n t e rest = rest (T-and (not (eqb n 0)) (numbered cs) t .1) e
       go false n t e rest = absurd (T-and (not (eqb 0 0)) (numbered cs) (rw e at t) .0)
@@ -100,17 +103,26 @@ module _ (call : Event) (k : Checking call) (c : Control) (t : Tables) (valid : 
       go true e some =
           let o = coreOf-opened c t e in
           let r = told o (k .runs s ∙ checked-refused (running s) (accepted (k .made s)) (k .checks s) some) in
-          record { answer = ap (λ (q : Result). q .answer) (sym r); core = o ∙ ap (λ (q : Result). q .core) (sym r); valid = valid }
+          record {
+            answer = ap (λ (q : Result). q .answer) (sym r);
+            core = o ∙ ap (λ (q : Result). q .core) (sym r);
+            valid = valid;
+          }
       go false e some =
           let o = coreOf-shut c t e in
           let r = told o (k .shut) in
-          record { answer = ap (λ (q : Result). q .answer) (sym r); core = o ∙ ap (λ (q : Result). q .core) (sym r); valid = valid }
+          record {
+            answer = ap (λ (q : Result). q .answer) (sym r);
+            core = o ∙ ap (λ (q : Result). q .core) (sym r);
+            valid = valid;
+          }
 
   -- the same of what a function returned
   pub refused-with : (r : Answered) (n : ℕ) → r ≡ record { control = c; answer = Refused n } → n ≡ refusal c t (k .checks) → n ≢ 0
       → Meets call c t r t
   refused-with r n e f some =
-      rw e (subst (λ (m : ℕ). Meets call c t (record { control = c; answer = Refused m }) t) (sym f) (refused-meets (λ z. some (f ∙ z))))
+      rw e (subst (λ (m : ℕ). Meets call c t (record { control = c; answer = Refused m }) t) (sym f)
+      (refused-meets (λ z. some (f ∙ z))))
 
   -- where no check fails, the core was open
   pub opened : refusal c t (k .checks) ≡ 0 → c .opened ≡ true
@@ -152,6 +164,6 @@ module _ (call : Event) (k : Checking call) (c : Control) (t : Tables) (valid : 
         limits : StateLimits (k .made s)
         limits = subst (λ (q : Result). CoreLimits (q .core)) ran (step-limits (running s) (sound-before .limits) call)
 
-    pub accepted-with : (r : Answered) (d : Control) (u : Tables) → r ≡ record { control = d; answer = Accepted } → d .opened ≡ true
-        → stateOf d u ≡ k .made (stateOf c t) → Shape d u → Meets call c t r u
+    pub accepted-with : (r : Answered) (d : Control) (u : Tables) → r ≡ record { control = d; answer = Accepted }
+        → d .opened ≡ true → stateOf d u ≡ k .made (stateOf c t) → Shape d u → Meets call c t r u
     accepted-with r d u e o same shape = rw e (accepted-meets d u o same shape)

@@ -1,6 +1,6 @@
 -- A run of the code is the trace of the definitions, however long it is and whatever is called: its answers are theirs, and its
--- tables mean the core that they reach. By induction over the run. So demand 3 of all histories is so of all runs, and no run got the
--- answer by which a scheduler differs. Assumes nothing but the promises that a run is made of.
+-- tables mean the core that they reach. By induction over the run. So demand 3 of all histories is so of all runs, and no run got
+-- the answer by which a scheduler differs. Assumes nothing but the promises that a run is made of.
 use Prim.Native.Nat.{ℕ}
 use mathlib.Core.Path.{_≡_, refl, sym, ap, ap₂, _∙_}
 use mathlib.Core.Bool.{Bool, true, false}
@@ -85,9 +85,12 @@ looks-at chosen e f g h looks = rw (e, f, g, h) looks
 pub run-sameness : CodeSameness
 unfolding CodeSameness Sameness CodeDefined
 run-sameness chosen R Q e r q p w n =
-    looks-at chosen (run-defined r .dealt) (ap holdingsOf (run-defined r .core)) (run-defined q .dealt) (ap holdingsOf (run-defined q .core))
+    let as-many : _≡_ {A = ℕ} (calls (kept chosen (traceOf scheduler (callsOf (r .trace)))))
+    (calls (kept chosen (traceOf scheduler (callsOf (q .trace))))) = ap calls (sym (keeps r)) ∙ n ∙ ap calls (keeps q) in
+    looks-at chosen (run-defined r .dealt) (ap holdingsOf (run-defined r .core))
+    (run-defined q .dealt) (ap holdingsOf (run-defined q .core))
     (sameness chosen (callsOf (R .trace)) (callsOf (Q .trace)) (sym (keeps R) ∙ e ∙ keeps Q)
-    (callsOf (r .trace)) (callsOf (q .trace)) (place-called p) (place-called w) (ap calls (sym (keeps r)) ∙ n ∙ ap calls (keeps q)))
+    (callsOf (r .trace)) (callsOf (q .trace)) (place-called p) (place-called w) as-many)
   where
     keeps : (run : Run) → kept chosen (run .trace) ≡ kept chosen (traceOf scheduler (callsOf (run .trace)))
     keeps run = ap (kept chosen) (run-defined run .dealt)

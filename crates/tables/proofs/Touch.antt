@@ -134,7 +134,8 @@ module _ (c : Control) (t : Tables) (old : Shape c t) (d : Control) (u : Tables)
   placed-elsewhere : (j : ℕ) → j ≢ id → j < ids
       → placesOf j (k .order) ≡ cond (isIndifferent (kindAt d j)) (ring j (headAt (u .stocks) j) (countAt (u .stocks) j)) []
   placed-elsewhere j other l =
-      rw (kind-elsewhere j other, k .onlyStocks headColumn j l other, k .onlyStocks countColumn j l other) (k .others j other ∙ old .placed j l)
+      rw (kind-elsewhere j other, k .onlyStocks headColumn j l other, k .onlyStocks countColumn j l other)
+      (k .others j other ∙ old .placed j l)
 
   pub touch-shape : Shape d u
   touch-shape = record {

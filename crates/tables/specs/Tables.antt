@@ -1,6 +1,6 @@
 -- The tables of the core (paper 01: "2,048 places, 32 for each of the 64 ids": "an array [0; 2048] of handles and one of
--- lengths"). What a client has once, its terms, is one table, and what it has to send, its stock, is another; each has several numbers
--- for each id, one column after the other.
+-- lengths"). What a client has once, its terms, is one table, and what it has to send, its stock, is another; each has several
+-- numbers for each id, one column after the other.
 use Prim.Native.Nat.{ℕ, zero, suc, _+_, _*_, _%_}
 use mathlib.Core.List.{List, [], _∷_}
 use lib.ListN.{getD, set}

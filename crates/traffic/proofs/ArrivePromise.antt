@@ -27,7 +27,7 @@ use Rattle.tables.specs.Numbers.{refusal}
 use Rattle.tables.specs.Promise.{Meets}
 use Rattle.tables.proofs.Promises.{refused-with, opened, all-passed, sound-before, accepted-with}
 use Rattle.tables.proofs.Checkings.{arrives}
-use Rattle.tables.proofs.Ring.{place-within, ring-free, queue-length}
+use Rattle.tables.proofs.QueueRing.{place-within, ring-free, queue-length}
 use Rattle.traffic.proofs.ArrivedTables.{freePlace, place-own, arrivedTables, Lined, arrived-shape, arrived-state}
 
 module _ (c : Control) (t : Tables) (old : Shape c t) (id : ℕ) where

@@ -21,9 +21,9 @@ use Rattle.definitions.proofs.Laws.Rates.{held}
 use Rattle.marks.specs.Marks.{marked}
 use Rattle.order.specs.Order.{sentinel, Sound, Ordered, Absent}
 use Rattle.order.specs.Owner.{owner, placesOf}
-use Rattle.order.proofs.Lists.{all-map}
+use Rattle.order.proofs.DistinctLists.{all-map}
 use Rattle.order.proofs.Owner.{map-owner-append, placesOf-push-own, placesOf-push-other}
-use Rattle.order.proofs.Walk.{ordered-walked}
+use Rattle.order.proofs.OrderWalk.{ordered-walked}
 use Rattle.tables.specs.declared.Control.{Control}
 use Rattle.tables.specs.Controls.{withWaiting}
 use Rattle.tables.specs.Tables.{Tables, tables, rateColumn, burstColumn, levelColumn, termColumns}
@@ -31,7 +31,7 @@ use Rattle.tables.specs.Tables.{poolColumn, headColumn, countColumn, entry, fie
 use Rattle.tables.specs.Meaning.{kindAt, packetAt, queueAt, clientAt, clientsOf, stockAt, stocksOf, orderOf, sideOf, stateOf}
 use Rattle.tables.specs.Invariant.{Shape}
 use Rattle.tables.proofs.Fields.{OnlyAt, only-set, field-own, place-owner}
-use Rattle.tables.proofs.Ring.{placeOf, place-within, ring-push, ring-free, packets-same, packets-append}
+use Rattle.tables.proofs.QueueRing.{placeOf, place-within, ring-push, ring-free, packets-same, packets-append}
 use Rattle.tables.proofs.Touch.{Touch, touch-clients, touch-stocks, touch-shape, client-own, stock-own, rates-kept}
 
 -- the place that the packet goes to

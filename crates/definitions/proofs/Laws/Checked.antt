@@ -40,7 +40,8 @@ checked-rel R [] b b′ d d′ r e = e
 checked-rel R (c ∷ cs) b b′ d d′ r e = go (c .passed) (checked-rel R cs b b′ d d′ r e)
   where
     go : (x : Bool) → R (checked cs b d) (checked cs b′ d′)
-        → R (cond x (checked cs b d) (refused (c .number) (b (c .number)))) (cond x (checked cs b′ d′) (refused (c .number) (b′ (c .number))))
+        → R (cond x (checked cs b d) (refused (c .number) (b (c .number))))
+        (cond x (checked cs b′ d′) (refused (c .number) (b′ (c .number))))
     go true rest = rest
     go false rest = r (c .number)
 

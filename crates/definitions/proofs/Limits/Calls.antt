@@ -82,7 +82,8 @@ module _ (s : State) (known : StateLimits s) where
 
   call-limits : (cs : List Check) (id : ℕ) (c : Client) (k : Stock) (order : List ℕ)
       → (Passed cs → Update s id c k order)
-      → CoreLimits (checked cs (unchanged (running s)) (accepted (updated s (put (s .clients) id c) (with-stock s id k order))) .core)
+      → CoreLimits (checked cs (unchanged (running s))
+      (accepted (updated s (put (s .clients) id c) (with-stock s id k order))) .core)
   call-limits cs id c k order update =
       checked-cases (λ r. CoreLimits (r .core)) cs (unchanged (running s))
       (accepted (updated s (put (s .clients) id c) (with-stock s id k order)))
@@ -118,7 +119,8 @@ module _ (s : State) (known : StateLimits s) where
     pub join-limits : (kind rate burst : ℕ) → CoreLimits (onJoin s id kind rate burst .core)
     unfolding onJoin stocked
     join-limits kind rate burst =
-        call-limits (joinChecks s id kind rate burst) id (joining kind rate burst) bare (s .side .order) (join-update kind rate burst)
+        call-limits (joinChecks s id kind rate burst) id (joining kind rate burst) bare (s .side .order)
+        (join-update kind rate burst)
 
     module _ (kind rate burst : ℕ) (h : Passed (changeChecks s id kind rate burst)) where
       change-terms : Terms (kindOf kind) rate burst
@@ -168,7 +170,9 @@ module _ (s : State) (known : StateLimits s) where
       changed-limits = go (sameKind (s .clients id .kind) (kindOf kind)) refl
         where
           stays : with-stock s id (s .side .stocks id) (s .side .order) ≡ s .side
-          stays = ap (λ (k : ℕ → Stock). record { generator = s .side .generator; order = s .side .order; stocks = k }) (put-own (s .side .stocks) id)
+          stays =
+              ap (λ (k : ℕ → Stock). record { generator = s .side .generator; order = s .side .order; stocks = k })
+              (put-own (s .side .stocks) id)
 
           go : (b : Bool)
               → sameKind (s .clients id .kind) (kindOf kind) ≡ b
@@ -176,8 +180,9 @@ module _ (s : State) (known : StateLimits s) where
               (put (s .clients) id (cond b (retuned (s .clients id) rate burst) (joining kind rate burst)))
               (cond b (s .side) (emptied (s .side) id)))
           go true e =
-              subst (λ (side : Side). StateLimits (updated s (put (s .clients) id (retuned (s .clients id) rate burst)) side)) stays
-              (updated-limits id (retuned (s .clients id) rate burst) (s .side .stocks id) (s .side .order)
+              let tuned : Client = retuned (s .clients id) rate burst in
+              subst (λ (side : Side). StateLimits (updated s (put (s .clients) id tuned) side)) stays
+              (updated-limits id tuned (s .side .stocks id) (s .side .order)
               (retuned-update (sameKind-true (s .clients id .kind) (kindOf kind) e)))
           go false e = updated-limits id (joining kind rate burst) bare (without id (s .side .order)) joining-update
 

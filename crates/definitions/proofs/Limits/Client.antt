@@ -129,7 +129,8 @@ module _ (c : Client) (parts : Parts c) where
   pub charged-parts : Parts (charged c)
   unfolding charged
   charged-parts =
-      with-level _ (cond-both (λ (n : ℕ). n ≤ c .burst * shares) (isIndifferent (c .kind)) (omega (arith, parts .levels)) (parts .levels))
+      with-level _ (cond-both (λ (n : ℕ). n ≤ c .burst * shares) (isIndifferent (c .kind))
+      (omega (arith, parts .levels)) (parts .levels))
 
   pub refilled-parts : Parts (refilled c)
   unfolding refilled

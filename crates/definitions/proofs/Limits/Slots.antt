@@ -47,7 +47,8 @@ Quiet rule2 s = (j : ℕ) → ordered (s .clients j) (s .side .stocks j) ≡ 0
 Quiet rule3 s = Unit {0}
 
 module _ (s : State) (known : StateLimits s) where
-  picked-ordered : (id : ℕ) → ordered (s .clients id) (spent (s .side .stocks id)) ≡ pred (ordered (s .clients id) (s .side .stocks id))
+  picked-ordered : (id : ℕ)
+      → ordered (s .clients id) (spent (s .side .stocks id)) ≡ pred (ordered (s .clients id) (s .side .stocks id))
   picked-ordered id = ordered-spent (s .clients id) (s .side .stocks id)
 
   slotted-order : (rule : Rule) (id : ℕ)
@@ -74,7 +75,8 @@ module _ (s : State) (known : StateLimits s) where
     disciplineHigh = known .disciplineHigh;
     ratesHigh = known .ratesHigh;
     clientLimits = λ j.
-        parts-limits (refilled (s .clients j)) (refilled-parts (s .clients j) (limits-parts (s .clients j) (known .clientLimits j)));
+        parts-limits (refilled (s .clients j))
+        (refilled-parts (s .clients j) (limits-parts (s .clients j) (known .clientLimits j)));
     idsHigh = λ j high. ap refilled (known .idsHigh j high);
     sideLimits = record {
       stockLimits = stocksAfter-cases (λ j k. StockLimits (s .clients j .kind) k) (t .rule) (t .id) (s .side .stocks)

@@ -42,7 +42,10 @@ queue-push : (queue : List Packet) (p : Packet)
     → length queue < places
     → (shortest ≤ p .length) × (p .length ≤ longest)
     → QueueLimits (queue ++ (p ∷ []))
-queue-push queue p fits room own = record { queueHigh = simp length-append (omega arith); queueLengths = go queue (fits .queueLengths) }
+queue-push queue p fits room own = record {
+  queueHigh = simp length-append (omega arith);
+  queueLengths = go queue (fits .queueLengths);
+}
   where
     go : (q : List Packet) → LengthsFit q → LengthsFit (q ++ (p ∷ []))
     go [] f = (own .0, own .1, tt)

@@ -81,10 +81,12 @@ module _ (s : State) (known : StateLimits s) where
   unfolding earliest standing
   earliest-picked id waits = go (s .side .order) (known .sideLimits .orderWhole)
     where
-      go : (order : List ℕ) → ((j : ℕ) → standing j order ≡ ordered (s .clients j) (s .side .stocks j)) → PickedBy rule1 s (earliest order)
+      go : (order : List ℕ) → ((j : ℕ) → standing j order ≡ ordered (s .clients j) (s .side .stocks j))
+          → PickedBy rule1 s (earliest order)
       go [] whole = absurd (omega (arith, whole id, contends-ordered (s .clients id) (s .side .stocks id) waits))
       go (first ∷ rest) whole =
-          let some : 0 < ordered (s .clients first) (s .side .stocks first) = omega (arith, whole first, standing-first-same first first rest refl) in (
+          let some : 0 < ordered (s .clients first) (s .side .stocks first) =
+          omega (arith, whole first, standing-first-same first first rest refl) in (
             lt-cases first ids (λ below. below) (λ high. absurd (omega (arith, some, ordered-high s known first high))),
             ordered-contends (s .clients first) (s .side .stocks first) some,
           )

@@ -1,7 +1,7 @@
 -- The six calls other than tick against erasure. A kept call gets the same answer from a core and from its erasure, and
 -- leaves cores that are erased alike; an arrive or load of a private neighbour, or of nobody, leaves the erasure as it was.
--- The tests of a kept call read kinds and rates, and those of a kept arrive or load what the client that it names has: none of it is erased.
--- Assumes nothing.
+-- The tests of a kept call read kinds and rates, and those of a kept arrive or load what the client that it names has:
+-- none of it is erased. Assumes nothing.
 use Prim.Native.Nat.{ℕ}
 use mathlib.Core.Path.{_≡_, refl, ap, _∙_}
 use mathlib.Core.Bool.{Bool, true, false, cond}
@@ -28,7 +28,8 @@ pub record Alike (chosen : ℕ) (r q : Result) : Type 0 where
 module _ (chosen : ℕ) where
   -- what is done on a state and on its erasure, under the same checks
   checked-alike : (s : State) (cs cs′ : List Check) (t t′ : State) → cs′ ≡ cs → erase chosen t ≡ erase chosen t′
-      → Alike chosen (checked cs (unchanged (running s)) (accepted t)) (checked cs′ (unchanged (running (erase chosen s))) (accepted t′))
+      → Alike chosen (checked cs (unchanged (running s)) (accepted t))
+      (checked cs′ (unchanged (running (erase chosen s))) (accepted t′))
   unfolding eraseCore
   checked-alike s cs cs′ t t′ e d =
       rw e
@@ -50,7 +51,8 @@ module _ (chosen : ℕ) where
       → Alike chosen (onOpen core threshold discipline seed) (onOpen (eraseCore chosen core) threshold discipline seed)
   unfolding onOpen
   open-alike core threshold discipline seed =
-      checked-rel (Alike chosen) (openChecks threshold discipline seed) (unchanged core) (unchanged (eraseCore chosen core)) done done
+      checked-rel (Alike chosen) (openChecks threshold discipline seed)
+      (unchanged core) (unchanged (eraseCore chosen core)) done done
       (λ n. record { answers = refl; cores = eraseCore-twice chosen core })
       (record { answers = refl; cores = refl })
     where
@@ -69,7 +71,8 @@ module _ (chosen : ℕ) where
         (λ j other. ap (λ (d : Client). d .kind) (put-other (s .clients) id c j other))
         (rw (put-same (s .clients) id c) e)
 
-    pub join-alike : (kind rate burst : ℕ) → Alike chosen (onJoin s id kind rate burst) (onJoin (erase chosen s) id kind rate burst)
+    pub join-alike : (kind rate burst : ℕ)
+        → Alike chosen (onJoin s id kind rate burst) (onJoin (erase chosen s) id kind rate burst)
     unfolding onJoin erase stocked joinChecks
     join-alike kind rate burst =
         checked-alike s (joinChecks s id kind rate burst) (joinChecks (erase chosen s) id kind rate burst)
@@ -108,18 +111,22 @@ module _ (chosen : ℕ) where
     unfolding sideAfterChange changed retuned erase
     changed-alike kind rate burst = go (sameKind (s .clients id .kind) (kindOf kind))
       where
-        kinds : (j : ℕ) → put (s .clients) id (retuned (s .clients id) rate burst) j .kind ≡ s .clients j .kind
-        kinds = put-keeps (s .clients) id (retuned (s .clients id) rate burst) (λ (c : Client). c .kind) refl
+        tuned : Client
+        tuned = retuned (s .clients id) rate burst
+
+        kinds : (j : ℕ) → put (s .clients) id tuned j .kind ≡ s .clients j .kind
+        kinds = put-keeps (s .clients) id tuned (λ (c : Client). c .kind) refl
+
+        clients : Bool → ℕ → Client
+        clients same = put (s .clients) id (cond same tuned (joining kind rate burst))
 
         go : (same : Bool)
-            → erase chosen (updated s (put (s .clients) id (cond same (retuned (s .clients id) rate burst) (joining kind rate burst)))
-            (cond same (s .side) (emptied (s .side) id)))
-            ≡ erase chosen (updated (erase chosen s)
-            (put (s .clients) id (cond same (retuned (s .clients id) rate burst) (joining kind rate burst)))
+            → erase chosen (updated s (clients same) (cond same (s .side) (emptied (s .side) id)))
+            ≡ erase chosen (updated (erase chosen s) (clients same)
             (cond same (erase chosen s .side) (emptied (erase chosen s .side) id)))
         go true =
-            updated-alike s (put (s .clients) id (retuned (s .clients id) rate burst)) (s .side) (erase chosen s .side) refl refl
-            (λ j. shown-kept chosen (s .clients) (s .side .stocks) (put (s .clients) id (retuned (s .clients id) rate burst)) j (kinds j))
+            updated-alike s (clients true) (s .side) (erase chosen s .side) refl refl
+            (λ j. shown-kept chosen (s .clients) (s .side .stocks) (clients true) j (kinds j))
         go false = emptied-alike (joining kind rate burst)
 
     pub change-alike : (kind rate burst : ℕ)
@@ -145,7 +152,8 @@ module _ (chosen : ℕ) where
       load-alike dummies =
           checked-alike s (loadChecks s id dummies) (loadChecks (erase chosen s) id dummies)
           (updated s (s .clients) (stocked (s .side) id more))
-          (updated (erase chosen s) (s .clients) (stocked (erase chosen s .side) id (loaded (erase chosen s .side .stocks id) dummies)))
+          (updated (erase chosen s) (s .clients)
+          (stocked (erase chosen s .side) id (loaded (erase chosen s .side .stocks id) dummies)))
           (rw as-it-is)
           (updated-alike s (s .clients) (stocked (s .side) id more)
           (stocked (erase chosen s .side) id (loaded (erase chosen s .side .stocks id) dummies)) refl refl
@@ -169,7 +177,11 @@ module _ (chosen : ℕ) where
 
     -- what is done to the stock of a hidden client is not seen
     unseen : hidden chosen id (s .clients id) ≡ true → (k : Stock)
-        → erase chosen (updated s (s .clients) (record { generator = s .side .generator; order = s .side .order; stocks = put (s .side .stocks) id k }))
+        → erase chosen (updated s (s .clients) (record {
+          generator = s .side .generator;
+          order = s .side .order;
+          stocks = put (s .side .stocks) id k;
+        }))
         ≡ erase chosen s
     unfolding updated put shown
     unseen h k = erase-path chosen _ s refl refl refl refl refl (λ j. go j (eqb j id) refl)
@@ -197,17 +209,19 @@ module _ (chosen : ℕ) where
     -- an arrive or load that is struck out names another id, which is not indifferent: it is private, or it is refused
     struck : eqb id chosen ≡ false → isIndifferent (s .clients id .kind) ≡ false → (more : List Check) (t : State)
         → (hidden chosen id (s .clients id) ≡ true → erase chosen t ≡ erase chosen s)
-        → eraseCore chosen (checked (activeChecks s id more) (unchanged (running s)) (accepted t) .core) ≡ eraseCore chosen (running s)
+        → eraseCore chosen (checked (activeChecks s id more) (unchanged (running s)) (accepted t) .core)
+        ≡ eraseCore chosen (running s)
     unfolding eraseCore hidden
     struck other apart more t same = go (s .clients id .kind) refl
       where
         go : (k : Kind) → s .clients id .kind ≡ k
-            → eraseCore chosen (checked (activeChecks s id more) (unchanged (running s)) (accepted t) .core) ≡ eraseCore chosen (running s)
+            → eraseCore chosen (checked (activeChecks s id more) (unchanged (running s)) (accepted t) .core)
+            ≡ eraseCore chosen (running s)
         go absent q = ap (eraseCore chosen) (inactive more (accepted t) (ap isActive q))
         go indifferent q = true-false (ap isIndifferent q) apart
         go private q =
-            checked-cases (λ r. eraseCore chosen (r .core) ≡ eraseCore chosen (running s)) (activeChecks s id more) (unchanged (running s))
-            (accepted t)
+            checked-cases (λ r. eraseCore chosen (r .core) ≡ eraseCore chosen (running s)) (activeChecks s id more)
+            (unchanged (running s)) (accepted t)
             (λ n. refl)
             (λ passed. ap running (same (rw (q, other))))
 

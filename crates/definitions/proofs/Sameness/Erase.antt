@@ -96,7 +96,8 @@ module _ (chosen : ℕ) where
   pub erase-twice : (s : State) → erase chosen s ≡ erase chosen (erase chosen s)
   unfolding erase
   erase-twice s =
-      erase-path s (erase chosen s) refl refl refl refl refl (λ id. shown-kept (s .clients) (s .side .stocks) (s .clients) id refl)
+      erase-path s (erase chosen s) refl refl refl refl refl
+      (λ id. shown-kept (s .clients) (s .side .stocks) (s .clients) id refl)
 
   pub eraseCore-twice : (core : Core) → eraseCore chosen core ≡ eraseCore chosen (eraseCore chosen core)
   unfolding eraseCore

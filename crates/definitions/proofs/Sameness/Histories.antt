@@ -78,7 +78,9 @@ module _ (chosen : ℕ) where
 
   pub alike-client : {h k : History} → AlikeAt h k → (id : ℕ) → clientOf (after scheduler h) id ≡ clientOf (after scheduler k) id
   alike-client {h} {k} a id =
-      sym (erase-client (after scheduler h) id) ∙ ap (λ (z : Core). clientOf z id) (a .cores) ∙ erase-client (after scheduler k) id
+      sym (erase-client (after scheduler h) id)
+      ∙ ap (λ (z : Core). clientOf z id) (a .cores)
+      ∙ erase-client (after scheduler k) id
 
   pub alike-indifferent : {h k : History} → AlikeAt h k → (id : ℕ) → indifferentAt id (trace h) ≡ indifferentAt id (trace k)
   unfolding holdsIndifferent
@@ -129,7 +131,8 @@ module _ (chosen : ℕ) where
   struck-erased h Tick e = true-false e refl
 
   -- the chosen client is not hidden, nor is an indifferent one
-  pub hidden-not : (id : ℕ) (c : Client) → not (eqb id chosen) && not (isIndifferent (c .kind)) ≡ false → hidden chosen id c ≡ false
+  pub hidden-not : (id : ℕ) (c : Client) → not (eqb id chosen) && not (isIndifferent (c .kind)) ≡ false
+      → hidden chosen id c ≡ false
   unfolding hidden
   hidden-not id c = go (c .kind) (eqb id chosen)
     where
@@ -183,7 +186,8 @@ module _ (chosen : ℕ) where
       → answerAt scheduler h c ≡ answerAt scheduler k c
   unfolding answerAt
   alike-answer {h} {k} a c e n =
-      step-alike (after scheduler h) (after scheduler k) c (a .cores) (kept-seen h c e) (kept-seen k c (sym (alike-struck a c) ∙ e)) .answers n
+      let kept-too : isStruck chosen (trace k) c ≡ false = sym (alike-struck a c) ∙ e in
+      step-alike (after scheduler h) (after scheduler k) c (a .cores) (kept-seen h c e) (kept-seen k c kept-too) .answers n
 
   pick-erased : (core : Core) → pickOf (eraseCore chosen core) ≡ pickOf core
   unfolding eraseCore
@@ -201,12 +205,14 @@ module _ (chosen : ℕ) where
   pub alike-draws : {h k : History} → AlikeAt h k → drawsOf (after scheduler h) ≡ drawsOf (after scheduler k)
   alike-draws {h} {k} a = sym (draws-erased (after scheduler h)) ∙ ap drawsOf (a .cores) ∙ draws-erased (after scheduler k)
 
-  departure-erased : (core : Core) (id : ℕ) → isDeparture id (step core Tick .answer) ≡ isDeparture id (step (eraseCore chosen core) Tick .answer)
+  departure-erased : (core : Core) (id : ℕ)
+      → isDeparture id (step core Tick .answer) ≡ isDeparture id (step (eraseCore chosen core) Tick .answer)
   unfolding step eraseCore
   departure-erased unopened id = refl
   departure-erased (running s) id = tick-departure chosen s id
 
-  departed-erased : (core : Core) (id : ℕ) → hidden chosen id (clientOf core id) ≡ false → isDeparture id (step core Tick .answer) ≡ true
+  departed-erased : (core : Core) (id : ℕ) → hidden chosen id (clientOf core id) ≡ false
+      → isDeparture id (step core Tick .answer) ≡ true
       → step core Tick .answer ≡ step (eraseCore chosen core) Tick .answer
   unfolding step eraseCore clientOf
   departed-erased unopened id e d = refl
@@ -233,7 +239,8 @@ module _ (chosen : ℕ) where
         ∙ ap (λ (z : Core). step z Tick .answer) (a .cores)
         ∙ sym (departed-erased (after scheduler k) id (sym (alike-hidden a id) ∙ e) (sym (alike-departure a id) ∙ d))
 
-    stock-erased : (core : Core) → hidden chosen id (clientOf core id) ≡ false → stockOf (eraseCore chosen core) id ≡ stockOf core id
+    stock-erased : (core : Core) → hidden chosen id (clientOf core id) ≡ false
+        → stockOf (eraseCore chosen core) id ≡ stockOf core id
     unfolding clientOf stockOf eraseCore erase
     stock-erased unopened q = refl
     stock-erased (running s) q = shown-open chosen (s .clients) (s .side .stocks) id q

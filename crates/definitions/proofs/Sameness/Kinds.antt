@@ -44,18 +44,24 @@ module _ (id : ℕ) (s : State) where
       → Told id c (isIndifferent (s .clients id .kind)) (checked cs (unchanged (running s)) (accepted t))
   unfolding holdsIndifferent clientOf isAccepted
   told-checked c cs t e =
-      checked-cases (Told id c (isIndifferent (s .clients id .kind))) cs (unchanged (running s)) (accepted t) (λ n. refl) (λ passed. e)
+      checked-cases (Told id c (isIndifferent (s .clients id .kind))) cs (unchanged (running s)) (accepted t)
+      (λ n. refl) (λ passed. e)
 
   -- the client at an id after one client was put
-  put-indifferent : (other : ℕ) (c : Client) → isIndifferent (put (s .clients) other c id .kind) ≡ cond (eqb other id) (isIndifferent (c .kind)) (isIndifferent (s .clients id .kind))
+  put-indifferent : (other : ℕ) (c : Client)
+      → isIndifferent (put (s .clients) other c id .kind)
+      ≡ cond (eqb other id) (isIndifferent (c .kind)) (isIndifferent (s .clients id .kind))
   unfolding put
   put-indifferent other c = rw (eqb-comm other id) (go (eqb id other))
     where
-      go : (b : Bool) → isIndifferent ((cond b c (s .clients id)) .kind) ≡ cond b (isIndifferent (c .kind)) (isIndifferent (s .clients id .kind))
+      go : (b : Bool)
+          → isIndifferent ((cond b c (s .clients id)) .kind)
+          ≡ cond b (isIndifferent (c .kind)) (isIndifferent (s .clients id .kind))
       go true = refl
       go false = refl
 
-  changed-indifferent : (c : Client) (kind rate burst : ℕ) → isIndifferent (changed c kind rate burst .kind) ≡ eqb kind indifferentKind
+  changed-indifferent : (c : Client) (kind rate burst : ℕ)
+      → isIndifferent (changed c kind rate burst .kind) ≡ eqb kind indifferentKind
   unfolding changed retuned joining
   changed-indifferent c kind rate burst = go (sameKind (c .kind) (kindOf kind)) refl ∙ kindOf-indifferent kind
     where
@@ -65,21 +71,28 @@ module _ (id : ℕ) (s : State) where
       go false e = refl
 
   told-running : (c : Event) → Told id c (isIndifferent (s .clients id .kind)) (step (running s) c)
-  unfolding step onOpen onJoin onChange onLeave onLoad onArrive onTick updated slotted refillAll refilled indifferentBy joining charged fresh
-      holdsIndifferent clientOf isAccepted
+  unfolding step onOpen onJoin onChange onLeave onLoad onArrive onTick updated slotted refillAll refilled indifferentBy joining
+      charged fresh holdsIndifferent clientOf isAccepted
   told-running (Open t d v) = told-checked (Open t d v) (openChecks t d v) (fresh t d v) refl
   told-running (Join j k r b) =
-      told-checked (Join j k r b) (joinChecks s j k r b) (updated s (put (s .clients) j (joining k r b)) (stocked (s .side) j bare))
+      told-checked (Join j k r b) (joinChecks s j k r b)
+      (updated s (put (s .clients) j (joining k r b)) (stocked (s .side) j bare))
       (put-indifferent j (joining k r b) ∙ rw (kindOf-indifferent k))
   told-running (Change j k r b) =
-      told-checked (Change j k r b) (changeChecks s j k r b) (updated s (put (s .clients) j (changed (s .clients j) k r b)) (sideAfterChange s j k))
+      told-checked (Change j k r b) (changeChecks s j k r b)
+      (updated s (put (s .clients) j (changed (s .clients j) k r b)) (sideAfterChange s j k))
       (put-indifferent j (changed (s .clients j) k r b) ∙ rw (changed-indifferent (s .clients j) k r b))
   told-running (Leave j) =
-      told-checked (Leave j) (leaveChecks s j) (updated s (put (s .clients) j nobody) (emptied (s .side) j)) (put-indifferent j nobody)
+      told-checked (Leave j) (leaveChecks s j)
+      (updated s (put (s .clients) j nobody) (emptied (s .side) j))
+      (put-indifferent j nobody)
   told-running (Load j n) =
-      told-checked (Load j n) (loadChecks s j n) (updated s (s .clients) (stocked (s .side) j (loaded (s .side .stocks j) n))) refl
+      told-checked (Load j n) (loadChecks s j n)
+      (updated s (s .clients) (stocked (s .side) j (loaded (s .side .stocks j) n)))
+      refl
   told-running (Arrive j p) =
-      told-checked (Arrive j p) (arriveChecks s j p) (updated s (put (s .clients) j (charged (s .clients j))) (sideAfterArrival s j p))
+      told-checked (Arrive j p) (arriveChecks s j p)
+      (updated s (put (s .clients) j (charged (s .clients j))) (sideAfterArrival s j p))
       (ap isIndifferent (put-keeps (s .clients) j (charged (s .clients j)) (λ (c : Client). c .kind) refl id))
   told-running Tick = refl
 
@@ -87,7 +100,8 @@ told : (id : ℕ) (core : Core) (c : Event) → Told id c (holdsIndifferent id c
 unfolding holdsIndifferent clientOf step onOpen isAccepted fresh indifferentBy
 told id (running s) c = told-running id s c
 told id unopened (Open t d v) =
-    checked-cases (Told id (Open t d v) false) (openChecks t d v) (unchanged unopened) (accepted (fresh t d v)) (λ n. refl) (λ passed. refl)
+    checked-cases (Told id (Open t d v) false) (openChecks t d v) (unchanged unopened) (accepted (fresh t d v))
+    (λ n. refl) (λ passed. refl)
 told id unopened (Join j k r b) = refl
 told id unopened (Change j k r b) = refl
 told id unopened (Leave j) = refl

@@ -7,7 +7,7 @@ use mathlib.Core.List.{List, [], _∷_}
 use lib.ListN.{getD}
 use Rattle.definitions.specs.Event.{Open, Join, Change, Arrive, Tick}
 use Rattle.definitions.specs.declared.Answer.{Answer}
-use Rattle.definitions.specs.Sizes.{indifferentKind, privateKind}
+use Rattle.definitions.specs.Sizes.{places, indifferentKind, privateKind}
 use Rattle.definitions.specs.Answers.{shown}
 use Rattle.definitions.specs.History.{History, start, _then_, end, Pick, noSlot, byRule1, byRule2, byRule3, after, answerAt, dealingAt, traceOf}
 use Rattle.definitions.specs.Sameness.{isTick, names, indifferentBy, indifferentAt, isStruck, kept, log, departure, Sameness}
@@ -34,8 +34,8 @@ latestAnswer (entry ∷ entries) = getD (shown (entry .1)) 0 0
 
 -- what the claims below compute with
 unfoldable computed : Type 0
-unfolding everything Sameness kept isStruck indifferentAt indifferentBy answerAt dealingAt traceOf after log departure isTick names
-    withTick slotBy quiet busy latestPick latestAnswer
+unfolding everything Sameness kept isStruck indifferentAt indifferentBy answerAt dealingAt traceOf after log departure isTick
+    names withTick slotBy quiet busy latestPick latestAnswer
 computed = Unit {0}
 
 -- the slot is 5's where 5 waits, and nobody's where nobody waits
@@ -60,7 +60,7 @@ unfolding computed withArrive arriveIf roomInStore tokenLeft
 store-leaks claim =
     let own = Arrive 2 (record { handle = 7; length = 64 }) in
     let H = quiet then own in
-    let K = busy 32 then own in
+    let K = busy places then own in
     let told : _≡_ {A = ℕ} 0 14 = ap latestAnswer (claim 2 H K refl H K end end refl .chosenDealings .answers) in
     omega arith
 

@@ -35,7 +35,9 @@ unfoldable pub outlineCore : Core → Core
 outlineCore unopened = unopened
 outlineCore (running s) = running (outline s)
 
-outline-path : (s t : State) → s .threshold ≡ t .threshold → ((id : ℕ) → sketched (s .clients id) ≡ sketched (t .clients id)) → outline s ≡ outline t
+outline-path : (s t : State) → s .threshold ≡ t .threshold
+    → ((id : ℕ) → sketched (s .clients id) ≡ sketched (t .clients id))
+    → outline s ≡ outline t
 unfolding outline
 outline-path s t p e = λ i. record { threshold = p i; discipline = 0; clients = λ id. e id i; side = blank }
 
@@ -79,8 +81,8 @@ changed-sketched c kind rate burst = go (sameKind (c .kind) (kindOf kind))
 
 -- an open, join, change or leave on a core and on its outline
 setting-alike : (core : Core) (c : Event) → isSetting c ≡ true → Alike (step core c) (step (outlineCore core) c)
-unfolding step outlineCore outline sketched isSetting onOpen onJoin onChange onLeave joinChecks changeChecks leaveChecks activeChecks
-    rates activeRate
+unfolding step outlineCore outline sketched isSetting onOpen onJoin onChange onLeave joinChecks changeChecks leaveChecks
+    activeChecks rates activeRate
 setting-alike unopened c e = record { answers = refl; cores = refl }
 setting-alike (running s) (Open t d v) e =
     checked-rel Alike (openChecks t d v) (unchanged (running s)) (unchanged (running (outline s))) (accepted (fresh t d v))
@@ -92,7 +94,8 @@ setting-alike (running s) (Join j k r b) e =
     (updated (outline s) (put (outline s .clients) j (joining k r b)) (stocked blank j bare))
     (updated-outline s j (joining k r b) (joining k r b) (stocked (s .side) j bare) (stocked blank j bare) refl)
 setting-alike (running s) (Change j k r b) e =
-    checked-alike s (changeChecks s j k r b) (updated s (put (s .clients) j (changed (s .clients j) k r b)) (sideAfterChange s j k))
+    checked-alike s (changeChecks s j k r b)
+    (updated s (put (s .clients) j (changed (s .clients j) k r b)) (sideAfterChange s j k))
     (updated (outline s) (put (outline s .clients) j (changed (sketched (s .clients j)) k r b)) (sideAfterChange (outline s) j k))
     (updated-outline s j (changed (s .clients j) k r b) (changed (sketched (s .clients j)) k r b) (sideAfterChange s j k)
     (sideAfterChange (outline s) j k) (changed-sketched (s .clients j) k r b))

@@ -41,7 +41,8 @@ module _ (chosen : ℕ) where
   place-kept end = end
   place-kept (before {whole} {c} p) = go (isStruck chosen (trace whole) c) (place-kept p)
     where
-      go : {h′ : History} (b : Bool) → Place h′ (kept chosen (trace whole)) → Place h′ (cond b (kept chosen (trace whole)) (kept chosen (trace whole) then c))
+      go : {h′ : History} (b : Bool) → Place h′ (kept chosen (trace whole))
+          → Place h′ (cond b (kept chosen (trace whole)) (kept chosen (trace whole) then c))
       go true q = q
       go false q = before q
 
@@ -103,7 +104,8 @@ module _ (chosen : ℕ) where
     module _ (when : Trace → Bool) (steady : (h k : History) → AlikeAt chosen h k → when (trace h) ≡ when (trace k))
         (watched : (h : History) → when (trace h) ≡ true → Watched h) where
       -- a struck-out call is not logged where it would have to name the client
-      not-named : (h : History) (c : Event) (more : Bool) → isStruck chosen (trace h) c ≡ true → when (trace h) && (names id c && more) ≡ false
+      not-named : (h : History) (c : Event) (more : Bool) → isStruck chosen (trace h) c ≡ true
+          → when (trace h) && (names id c && more) ≡ false
       not-named h c more e = go (when (trace h)) refl
         where
           go : (b : Bool) → when (trace h) ≡ b → b && (names id c && more) ≡ false
@@ -119,7 +121,8 @@ module _ (chosen : ℕ) where
       answers-logged = record {
         struckOut = λ h c e. ap (λ (b : Bool). when (trace h) && b) (sym (and-true (names id c))) ∙ not-named h c true e;
         which-alike = λ {h} {k} a c e. ap (λ (b : Bool). b && names id c) (steady h k a);
-        shows-alike = λ {h} {k} a c e w. alike-answer chosen a c e (not-tick-named c (and-both (when (trace h)) (names id c) w .1));
+        shows-alike = λ {h} {k} a c e w.
+            alike-answer chosen a c e (not-tick-named c (and-both (when (trace h)) (names id c) w .1));
       }
 
       departures-logged : Logged chosen (λ p d. when p && departure id d) (λ d. d .answer)
@@ -140,7 +143,8 @@ module _ (chosen : ℕ) where
           departs h k a (Arrive j p) = refl
           departs h k a Tick = alike-departure chosen a id
 
-          departed : (h k : History) → AlikeAt chosen h k → (c : Event) → when (trace h) && (isTick c && isDeparture id (answerAt scheduler h c)) ≡ true
+          departed : (h k : History) → AlikeAt chosen h k → (c : Event)
+              → when (trace h) && (isTick c && isDeparture id (answerAt scheduler h c)) ≡ true
               → answerAt scheduler h c ≡ answerAt scheduler k c
           departed h k a (Open t d v) w = true-false (and-both (when (trace h)) false w .1) refl
           departed h k a (Join j kind r b) w = true-false (and-both (when (trace h)) false w .1) refl
@@ -162,16 +166,21 @@ module _ (chosen : ℕ) where
         struckOut = λ h c e. not-named h c (dropped h c) e;
         which-alike = λ {h} {k} a c e. ap₂ _&&_ (steady h k a) (same h k a c e (names id c) refl);
         shows-alike = λ {h} {k} a c e w.
-            alike-answer chosen a c e (not-tick-named c (and-both (names id c) (dropped h c) (and-both (when (trace h)) (names id c && dropped h c) w .1) .0));
+            let dropped-own : names id c && dropped h c ≡ true =
+            and-both (when (trace h)) (names id c && dropped h c) w .1 in
+            alike-answer chosen a c e (not-tick-named c (and-both (names id c) (dropped h c) dropped-own .0));
       }
         where
-          same : (h k : History) → AlikeAt chosen h k → (c : Event) → isStruck chosen (trace h) c ≡ false → (b : Bool) → names id c ≡ b
+          same : (h k : History) → AlikeAt chosen h k → (c : Event) → isStruck chosen (trace h) c ≡ false
+              → (b : Bool) → names id c ≡ b
               → b && dropped h c ≡ b && dropped k c
           same h k a c e true n =
-              ap (λ (x : Answer). isArrival c && (eqb (number x) 14 || eqb (number x) 15)) (alike-answer chosen a c e (not-tick-named c n))
+              ap (λ (x : Answer). isArrival c && (eqb (number x) 14 || eqb (number x) 15))
+              (alike-answer chosen a c e (not-tick-named c n))
           same h k a c e false n = refl
 
-      dealings-same : (h k : History) → kept chosen (trace h) ≡ kept chosen (trace k) → SameDealings chosen id when (trace h) (trace k)
+      dealings-same : (h k : History) → kept chosen (trace h) ≡ kept chosen (trace k)
+          → SameDealings chosen id when (trace h) (trace k)
       dealings-same h k e = record {
         answers = log-same chosen (λ p d. when p && names id (d .event)) (λ d. d .answer) answers-logged h k e;
         departures = log-same chosen (λ p d. when p && departure id d) (λ d. d .answer) departures-logged h k e;
@@ -236,7 +245,8 @@ module _ (chosen : ℕ) where
     chosenDealings = dealings-same chosen (λ p. true) (λ p q a. refl) (λ p w. own p) h k e;
     chosenHoldings = holdings-same chosen h k alike (own h);
     indifferentAlike = alike-indifferent chosen alike;
-    indifferentDealings = λ id. dealings-same id (indifferentAt id) (λ p q a. alike-indifferent chosen a id) (indifferently id) h k e;
+    indifferentDealings = λ id.
+        dealings-same id (indifferentAt id) (λ p q a. alike-indifferent chosen a id) (indifferently id) h k e;
     indifferentHoldings = λ id w. holdings-same id h k alike (indifferently id h (T-true w));
   }
     where
@@ -251,4 +261,5 @@ module _ (chosen : ℕ) where
 
 pub sameness : Sameness scheduler
 unfolding Sameness
-sameness chosen H K e h k p q n = looks-same chosen h k (place-unique (place-kept chosen p) (rw (sym e) at (place-kept chosen q)) n)
+sameness chosen H K e h k p q n =
+    looks-same chosen h k (place-unique (place-kept chosen p) (rw (sym e) at (place-kept chosen q)) n)

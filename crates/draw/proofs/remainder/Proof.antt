@@ -1,4 +1,5 @@
--- `draw::remainder` meets its contract: a remainder by 0 is the number itself, and none is more than what is divided. Assumes nothing.
+-- `draw::remainder` meets its contract: a remainder by 0 is the number itself, and none is more than what is divided.
+-- Assumes nothing.
 use borrow.Author.Needs.{needs}
 use Prim.Native.Nat.{ℕ, _%_}
 use native.Mathlib.Omega.{arith}

@@ -1,5 +1,5 @@
--- `draw::sample_below` meets its contract. The invariant: from the value that is next the definitions take the same sample as from
--- the first one; the throws that are left are those not made in the steps so far. Assumes nothing.
+-- `draw::sample_below` meets its contract. The invariant: from the value that is next the definitions take the same sample as
+-- from the first one; the throws that are left are those not made in the steps so far. Assumes nothing.
 use borrow.Author.Needs.{needs}
 use Prim.Native.Nat.{ℕ, suc, _+_, _-_, _≤_}
 use native.Mathlib.Omega.{arith}
@@ -31,7 +31,8 @@ module _ (total steps value : ℕ) (low : steps ≤ suc throws) {test : Bool}
   thrown-left e = leb-true steps throws (and-both (leb steps throws) _ (sym asked ∙ e) .0)
 
   thrown : test ≡ true
-      → sampleFrom total (suc throws - steps) steps value ≡ sampleFrom total (suc throws - (steps + 1)) (steps + 1) (stepped value)
+      → sampleFrom total (suc throws - steps) steps value
+      ≡ sampleFrom total (suc throws - (steps + 1)) (steps + 1) (stepped value)
   thrown e =
       let left : suc throws - steps ≡ suc (suc throws - (steps + 1)) = omega (arith, thrown-left e) in
       let high = and-both (leb steps throws) _ (sym asked ∙ e) .1 in

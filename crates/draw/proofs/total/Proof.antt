@@ -5,8 +5,8 @@ use native.Mathlib.Omega.{arith}
 use borrow.Author.Needs.{needs}
 use Rattle.definitions.specs.Sizes.{ids}
 use Rattle.marks.specs.Marks.{marked}
-use Rattle.marks.proofs.Search.{firstFrom-le}
-use Rattle.draw.proofs.Walk.{Walked, Turn, walked-start, walked-all, turn-small, turn-rest}
+use Rattle.marks.proofs.IdSearch.{firstFrom-le}
+use Rattle.draw.proofs.MarksWalk.{Walked, Turn, walked-start, walked-all, turn-small, turn-rest}
 use Rattle.draw.proofs.total.Statement.{statement}
 use Rattle.draw.proofs.total.Tie as tie
 

@@ -2,7 +2,7 @@
 -- them is there. Assumes nothing.
 use borrow.Author.Needs.{needs}
 use Rattle.definitions.specs.Sizes.{ids}
-use Rattle.marks.proofs.Words.{ones-any}
+use Rattle.marks.proofs.FirstMark.{ones-any}
 use Rattle.marks.proofs.any.Statement.{statement}
 use Rattle.marks.proofs.any.Tie as tie
 

@@ -1,6 +1,6 @@
 -- `marks::first` meets its contract: as many zeros as stand below the first mark are the id of that mark. Assumes nothing.
 use Rattle.definitions.specs.Sizes.{ids}
-use Rattle.marks.proofs.Words.{trailing-first}
+use Rattle.marks.proofs.FirstMark.{trailing-first}
 use Rattle.marks.proofs.first.Statement.{statement}
 use Rattle.marks.proofs.first.Tie as tie
 

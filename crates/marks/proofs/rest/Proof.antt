@@ -5,7 +5,7 @@ use native.Mathlib.Omega.{arith}
 use lib.Bits.{and-le-r}
 use borrow.Author.Needs.{needs}
 use Rattle.definitions.specs.Sizes.{ids}
-use Rattle.marks.proofs.Words.{marked-rest}
+use Rattle.marks.proofs.FirstMark.{marked-rest}
 use Rattle.marks.proofs.Bits.{marked-none}
 use Rattle.marks.proofs.rest.Statement.{statement}
 use Rattle.marks.proofs.rest.Tie as tie

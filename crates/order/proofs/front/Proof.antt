@@ -3,7 +3,7 @@
 use borrow.Author.Needs.{needs}
 use Rattle.definitions.specs.Sizes.{ids, places}
 use Rattle.order.specs.Order.{sentinel, nextOf}
-use Rattle.order.proofs.Links.{ordered-front}
+use Rattle.order.proofs.OrderedLinks.{ordered-front}
 use Rattle.order.proofs.front.Statement.{statement}
 use Rattle.order.proofs.front.Tie as tie
 

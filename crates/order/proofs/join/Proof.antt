@@ -3,8 +3,8 @@
 use native.Mathlib.Omega.{arith}
 use mathlib.Core.Path.{refl}
 use borrow.Author.Needs.{needs}
-use Rattle.order.specs.Order.{joined}
-use Rattle.order.proofs.Table.{sentinel-value}
+use Rattle.definitions.specs.Sizes.{ids, places}
+use Rattle.order.specs.Order.{sentinel, joined}
 use Rattle.order.proofs.join.Statement.{statement}
 use Rattle.order.proofs.join.Tie as tie
 
@@ -12,7 +12,8 @@ mul-links : tie.Need-mul-links
 mul-links c = search needs
 
 element-write-links : tie.Need-element-write-links
-element-write-links c = omega (arith, sentinel-value)
+unfolding sentinel ids places
+element-write-links c = omega arith
 
 add-links : tie.Need-add-links
 add-links c = search needs
@@ -21,11 +22,12 @@ mul-links-2 : tie.Need-mul-links-2
 mul-links-2 c = search needs
 
 element-write-links-2 : tie.Need-element-write-links-2
-element-write-links-2 c = omega (arith, sentinel-value)
+unfolding sentinel ids places
+element-write-links-2 c = omega arith
 
 returns : tie.Need-returns
-unfolding joined
-returns c = rw sentinel-value refl
+unfolding joined sentinel ids places
+returns c = refl
 
 pub join-spec : {M : Type 1} → statement M
 join-spec =

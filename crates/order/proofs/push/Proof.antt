@@ -4,7 +4,7 @@ use native.Mathlib.Omega.{arith}
 use borrow.Author.Needs.{needs}
 use Rattle.definitions.specs.Sizes.{ids, places}
 use Rattle.order.specs.Order.{sentinel, prevOf}
-use Rattle.order.proofs.Operations.{prev-node, pushed-sound, pushed-ordered}
+use Rattle.order.proofs.PushAndUnlink.{prev-node, pushed-sound, pushed-ordered}
 use Rattle.order.proofs.push.Statement.{statement}
 use Rattle.order.proofs.push.Tie as tie
 

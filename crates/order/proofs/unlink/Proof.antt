@@ -5,7 +5,7 @@ use native.Mathlib.Omega.{arith}
 use borrow.Author.Needs.{needs}
 use Rattle.definitions.specs.Sizes.{ids, places}
 use Rattle.order.specs.Order.{sentinel, nextOf, prevOf}
-use Rattle.order.proofs.Operations.{prev-node, next-node, unlinked-sound, unlinked-ordered}
+use Rattle.order.proofs.PushAndUnlink.{prev-node, next-node, unlinked-sound, unlinked-ordered}
 use Rattle.order.proofs.unlink.Statement.{statement}
 use Rattle.order.proofs.unlink.Tie as tie
 

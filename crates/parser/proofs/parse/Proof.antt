@@ -3,7 +3,7 @@ use mathlib.Core.Path.{sym, _∙_}
 use borrow.Author.Needs.{needs}
 use borrow.Author.Tests.{ne-eqb}
 use Rattle.grammar.specs.Grammar.{rules, parsed}
-use Rattle.grammar.proofs.Rules.{forms}
+use Rattle.grammar.proofs.AllForms.{forms}
 use Rattle.parser.proofs.Forms.{no-rule, unlike, like, only-like}
 use Rattle.parser.proofs.parse.Statement.{statement}
 use Rattle.parser.proofs.parse.Tie as tie

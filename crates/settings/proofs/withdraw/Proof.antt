@@ -5,7 +5,7 @@ use mathlib.Core.Bool.{true, false}
 use Rattle.definitions.specs.Sizes.{ids}
 use Rattle.definitions.specs.Client.{isIndifferent}
 use Rattle.tables.specs.Meaning.{kindAt}
-use Rattle.tables.proofs.Marking.{kind-indifferent}
+use Rattle.tables.proofs.MarkedKinds.{kind-indifferent}
 use Rattle.settings.proofs.Withdrawing.{withdrawn-none}
 use Rattle.tables.specs.Tables.{field}
 use Rattle.settings.proofs.withdraw.Statement.{statement}

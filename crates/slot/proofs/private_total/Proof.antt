@@ -7,7 +7,7 @@ use mathlib.Core.Path.{ap, _∙_}
 use Rattle.definitions.specs.Sizes.{ids}
 use Rattle.definitions.specs.Draw.{sumBelow}
 use Rattle.draw.specs.Weights.{weightAt}
-use Rattle.draw.proofs.Sums.{weightless}
+use Rattle.draw.proofs.EqualWeights.{weightless}
 use Rattle.slot.proofs.private_total.Statement.{statement}
 use Rattle.slot.proofs.private_total.Tie as tie
 

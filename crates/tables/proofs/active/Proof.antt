@@ -18,7 +18,8 @@ has-requires-2 c κs = search needs
 
 returns-2 : tie.Need-returns-2
 unfolding kindAt
-returns-2 c = rw (sym (c .before .before .has .ensures) ∙ c .before .if1 .left, sym (c .has2 .ensures)) (active-private (c .has2 .result))
+returns-2 c =
+    rw (sym (c .before .before .has .ensures) ∙ c .before .if1 .left, sym (c .has2 .ensures)) (active-private (c .has2 .result))
 
 pub active-spec : {M : Type 1} → statement M
 active-spec = tie.close (tie.spec has-requires returns has-requires-2 returns-2)

@@ -11,7 +11,7 @@ use Rattle.tables.specs.Tables.{Tables, tables, countAt}
 use Rattle.tables.specs.Meaning.{kindAt}
 use Rattle.tables.specs.Invariant.{Shape}
 use Rattle.tables.specs.Numbers.{refusal}
-use Rattle.tables.proofs.Marking.{kind-indifferent}
+use Rattle.tables.proofs.MarkedKinds.{kind-indifferent}
 use Rattle.traffic.proofs.ArrivedTables.{place-stored, chargedTerms, Lined}
 use Rattle.traffic.proofs.ArrivePromise.{lined-private, lined-indifferent, arrive-refused, arrive-accepted}
 use Rattle.traffic.proofs.ArrivePromise.{arrive-sound, arrive-below, arrive-room, arrive-paid}

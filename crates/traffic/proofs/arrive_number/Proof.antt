@@ -14,8 +14,8 @@ use Rattle.marks.specs.Marks.{marked}
 use Rattle.tables.specs.Tables.{tables, field, levelAt, countAt}
 use Rattle.tables.specs.Meaning.{stateOf, clientsOf, clientAt, sideOf, stocksOf, stockAt}
 use Rattle.tables.specs.Numbers.{firstFailed, refusal}
-use Rattle.tables.proofs.Marking.{kind-indifferent}
-use Rattle.tables.proofs.Ring.{queue-length}
+use Rattle.tables.proofs.MarkedKinds.{kind-indifferent}
+use Rattle.tables.proofs.QueueRing.{queue-length}
 use Rattle.traffic.proofs.ActiveChecks.{active-failed, active-below, active-rest}
 use Rattle.traffic.proofs.arrive_number.Statement.{statement}
 use Rattle.traffic.proofs.arrive_number.Tie as tie

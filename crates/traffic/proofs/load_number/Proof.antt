@@ -14,7 +14,7 @@ use Rattle.marks.specs.Marks.{marked}
 use Rattle.tables.specs.Tables.{tables, field, poolAt}
 use Rattle.tables.specs.Meaning.{stateOf, clientsOf, clientAt, sideOf, stocksOf, stockAt}
 use Rattle.tables.specs.Numbers.{firstFailed, refusal}
-use Rattle.tables.proofs.Marking.{kind-indifferent}
+use Rattle.tables.proofs.MarkedKinds.{kind-indifferent}
 use Rattle.traffic.proofs.ActiveChecks.{active-failed, active-below, active-rest}
 use Rattle.traffic.proofs.load_number.Statement.{statement}
 use Rattle.traffic.proofs.load_number.Tie as tie

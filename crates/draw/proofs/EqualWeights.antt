@@ -11,7 +11,7 @@ use Rattle.definitions.specs.Sample.{sample}
 use Rattle.definitions.specs.Draw.{sumBelow, drawnAt, drawnBy, draw}
 use Rattle.definitions.proofs.Laws.Sums.{sumBelow-same, sumBelow-zero}
 use Rattle.marks.proofs.Bits.{marked-none}
-use Rattle.marks.proofs.Search.{firstFrom-cong}
+use Rattle.marks.proofs.IdSearch.{firstFrom-cong}
 use Rattle.draw.specs.Weights.{weightAt}
 
 pub drawnAt-cong : (f g : ℕ → ℕ) (target : ℕ) → ((j : ℕ) → j < ids → f j ≡ g j) → drawnAt f target ≡ drawnAt g target

@@ -56,7 +56,10 @@ pub distinct-append : (xs ys : List ℕ)
     → All (λ x. Absent x ys) xs
     → Distinct (xs ++ ys)
 distinct-append [] ys hx hy across = hy
-distinct-append (x ∷ xs) ys hx hy across = (all-append (λ y. x ≢ y) xs ys (hx .0) (across .0), distinct-append xs ys (hx .1) hy (across .1))
+distinct-append (x ∷ xs) ys hx hy across = (
+  all-append (λ y. x ≢ y) xs ys (hx .0) (across .0),
+  distinct-append xs ys (hx .1) hy (across .1),
+)
 
 -- a new place behind
 pub distinct-push : (p : ℕ) (xs : List ℕ) → Distinct xs → Absent p xs → Distinct (xs ++ (p ∷ []))

@@ -16,8 +16,8 @@ use Rattle.definitions.specs.Draw.{firstFrom, sumBelow, drawnAt}
 use Rattle.definitions.proofs.Laws.Tests.{true-false, and-both}
 use Rattle.definitions.proofs.Laws.Sums.{sumBelow-zero, sumBelow-more, sumBelow-other}
 use Rattle.marks.specs.Marks.{marked}
-use Rattle.marks.proofs.Search.{firstFrom-le, firstFrom-holds, firstFrom-before, firstFrom-is}
-use Rattle.marks.proofs.Words.{marked-first-lt, marked-first, marked-first-none}
+use Rattle.marks.proofs.IdSearch.{firstFrom-le, firstFrom-holds, firstFrom-before, firstFrom-is}
+use Rattle.marks.proofs.FirstMark.{marked-first-lt, marked-first, marked-first-none}
 use Rattle.draw.specs.Weights.{weightAt}
 
 -- the first mark of a word

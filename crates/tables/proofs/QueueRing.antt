@@ -1,5 +1,5 @@
--- The places of a queue, as a ring among the 32 of its id: it grows at its end, and is taken from at its front.
--- Two of its numbers are one place only 32 apart. By recursion on the count of packets. Assumes nothing.
+-- The places of a queue, as a ring among those of its id: it grows at its end, and is taken from at its front.
+-- Two of its numbers are one place only `places` apart. By recursion on the count of packets. Assumes nothing.
 use Prim.Native.Nat.{ℕ, zero, suc, _+_, _*_, _%_, _≤_, _<_}
 use mathlib.Core.Path.{_≡_, refl, ap, ap₂, _∙_}
 use mathlib.Core.Logic.{_≢_}

@@ -12,7 +12,7 @@ use borrow.Author.Tests.{lt-ltb}
 use Rattle.definitions.specs.Draw.{firstFrom}
 use Rattle.definitions.specs.Tick.{anyBelow}
 use Rattle.marks.specs.Marks.{marked}
-use Rattle.marks.proofs.Search.{firstFrom-suc, firstFrom-holds, firstFrom-before, firstFrom-is, anyBelow-suc}
+use Rattle.marks.proofs.IdSearch.{firstFrom-suc, firstFrom-holds, firstFrom-before, firstFrom-is, anyBelow-suc}
 use Rattle.marks.proofs.Bits.{marked-zero, marked-suc, marked-none, marked-and, half-lt, word-unmarked}
 
 -- the marks of the half are those of the word, one id down

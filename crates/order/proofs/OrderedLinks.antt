@@ -8,9 +8,9 @@ use mathlib.Core.List.{List, [], _∷_, _++_, append-nil}
 use lib.ListN.{length, getD}
 use Rattle.order.specs.Order.{sentinel, linkCount, nextOf, prevOf, frontOf, joined}
 use Rattle.order.specs.Order.{Joined, Linked, All, Absent, Distinct, Ordered}
-use Rattle.order.proofs.Lists.{all-append, all-left, all-right, all-map}
-use Rattle.order.proofs.Lists.{distinct-left, distinct-right, distinct-across, distinct-push, distinct-unlink}
-use Rattle.order.proofs.Table.{joined-length, joined-next, joined-next-other, joined-prev, joined-prev-other}
+use Rattle.order.proofs.DistinctLists.{all-append, all-left, all-right, all-map}
+use Rattle.order.proofs.DistinctLists.{distinct-left, distinct-right, distinct-across, distinct-push, distinct-unlink}
+use Rattle.order.proofs.JoinedLinks.{joined-length, joined-next, joined-next-other, joined-prev, joined-prev-other}
 
 -- two stretches that meet at a node are one, and the other way round
 pub linked-append : (links : List ℕ) (u : ℕ) (xs : List ℕ) (p : ℕ) (ys : List ℕ) (v : ℕ)

@@ -1,5 +1,5 @@
--- The operations as the code does them, with a number that is no place taken by its remainder.
--- A place is its own remainder, so the laws of Links hold; every node written is an entry that was read, a place or the sentinel.
+-- `push` and `unlink` as the code does them, with a number that is no place taken by its remainder. A place is its own
+-- remainder, so the laws of OrderedLinks hold; every node written is an entry that was read, a place or the sentinel.
 use Prim.Native.Nat.{ℕ, zero, suc, _%_, _≤_, _<_}
 use native.Mathlib.Omega.{arith}
 use native.Mathlib.Nat.{mod-eq-of-lt}
@@ -7,9 +7,9 @@ use mathlib.Core.List.{List, [], _∷_, _++_}
 use lib.ListN.{getD, replicate, length-replicate, getD-replicate}
 use Rattle.definitions.specs.Sizes.{ids, places}
 use Rattle.order.specs.Order.{sentinel, linkCount, nextOf, prevOf, Sound, Absent, Ordered, joined}
-use Rattle.order.proofs.Lists.{all-right}
-use Rattle.order.proofs.Table.{joined-sound}
-use Rattle.order.proofs.Links.{ordered-new, ordered-push, ordered-unlink}
+use Rattle.order.proofs.DistinctLists.{all-right}
+use Rattle.order.proofs.JoinedLinks.{joined-sound}
+use Rattle.order.proofs.OrderedLinks.{ordered-new, ordered-push, ordered-unlink}
 
 abbrev pub pushed : List ℕ → ℕ → List ℕ
 pushed links place = joined (joined links (prevOf links sentinel) (place % sentinel)) (place % sentinel) sentinel

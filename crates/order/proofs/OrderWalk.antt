@@ -7,7 +7,7 @@ use mathlib.Core.List.{List, [], _∷_}
 use lib.ListN.{length}
 use borrow.Author.Tests.{eq-eqb, ne-eqb}
 use Rattle.order.specs.Order.{sentinel, nextOf, Linked, All, Ordered, walked}
-use Rattle.order.proofs.Lists.{distinct-length}
+use Rattle.order.proofs.DistinctLists.{distinct-length}
 
 linked-walked : (fuel : ℕ) (links : List ℕ) (u : ℕ) (order : List ℕ)
     → length order ≤ fuel

@@ -2,18 +2,12 @@
 -- The indices of the two halves differ, since a node is at most the sentinel.
 use Prim.Native.Nat.{ℕ, zero, suc, _+_, _≤_, _<_}
 use native.Mathlib.Omega.{arith}
-use mathlib.Core.Path.{_≡_, refl, _∙_}
+use mathlib.Core.Path.{_≡_, _∙_}
 use mathlib.Core.Logic.{_≢_}
 use mathlib.Core.List.{List, [], _∷_}
 use lib.ListN.{length, getD, set, length-set}
 use lib.Seq.{getD-set-same, getD-set-other}
-use Rattle.definitions.specs.Sizes.{ids, places}
 use Rattle.order.specs.Order.{sentinel, linkCount, nextOf, prevOf, Sound, joined}
-
--- the number of the code
-pub sentinel-value : sentinel ≡ 2048
-unfolding sentinel ids places
-sentinel-value = refl
 
 -- a node has an entry in each half
 next-index : (links : List ℕ) (a : ℕ) → length links ≡ linkCount → a ≤ sentinel → a < length links
