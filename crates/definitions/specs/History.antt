@@ -1,4 +1,4 @@
--- Histories: lists of the seven calls with any arguments, refused ones included, from an unopened core
+-- Histories: lists of events, calls with any arguments, refused ones included, from an unopened core
 -- (paper 01, "Two histories"). A history says what is called; a trace says what was called and what it got.
 use Prim.Native.Nat.{ℕ, suc}
 use mathlib.Core.List.{List, []}

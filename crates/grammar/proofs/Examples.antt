@@ -12,7 +12,7 @@ use Rattle.definitions.specs.Sizes.{numberLimit, handleLimit}
 use Rattle.grammar.specs.Bytes.{lineFeed, textLimit}
 use Rattle.grammar.specs.Numerals.{isDigit, leading, behind, isNumeral, valueFrom, digits, decimal}
 use Rattle.grammar.specs.Templates.{limits, numbersFit, filled, matched}
-use Rattle.grammar.specs.Grammar.{rules, sized, parsedBy, parsed}
+use Rattle.grammar.specs.Grammar.{sized, parsedBy, parsed}
 use Rattle.grammar.proofs.AllForms.{forms}
 use Rattle.grammar.specs.Printout.{printed, answered, printedFrom, printout}
 use Rattle.grammar.specs.Lines.{lines, heldFrom, heard, toldFrom, told}

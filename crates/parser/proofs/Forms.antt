@@ -11,7 +11,6 @@ use lib.Dec.{leb, eqb}
 use lib.ListN.{length, take, drop}
 use lib.Seq.{getD-take}
 use Rattle.definitions.proofs.Laws.Tests.{and-both}
-use Rattle.grammar.specs.declared.Line.{Line}
 use Rattle.grammar.specs.declared.Line.the-variants.{Form, Refused}
 use Rattle.grammar.specs.Templates.{isGap, limits, gaps, numbersFit, matched}
 use Rattle.grammar.specs.Grammar.{Rule, nth, sized, orElse, parsedBy}

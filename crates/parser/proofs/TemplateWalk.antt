@@ -13,7 +13,7 @@ use lib.Dec.{leb, ltb, eqb}
 use lib.ListN.{length, take, drop, getD, set, length-set, drop-of-length-le}
 use lib.Seq.{drop-nil, drop-cons, drop-drop, take-suc-set}
 use Rattle.grammar.specs.Numerals.{leading, behind, valueFrom}
-use Rattle.grammar.specs.Templates.{isGap, limitOf, limits, gaps, numbersFit, withNumber, matched}
+use Rattle.grammar.specs.Templates.{isGap, limits, gaps, numbersFit, withNumber, matched}
 use Rattle.grammar.proofs.TemplateSteps.{gap-fits, gap-misfits, byte-fits, byte-misfits}
 use Rattle.parser.specs.declared.Gap.{Gap}
 use Rattle.parser.specs.declared.Numeral.{Numeral}

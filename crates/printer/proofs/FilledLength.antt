@@ -3,13 +3,12 @@ use Prim.Native.Nat.{ℕ, suc, _+_, _*_, _^_, _≤_, _<_}
 use native.Mathlib.Omega.{arith}
 use mathlib.Core.Path.{_≡_, refl}
 use mathlib.Core.Bool.{Bool, true, false}
-use mathlib.Core.List.{List, [], _∷_, _++_}
+use mathlib.Core.List.{List, [], _∷_}
 use lib.ListN.{length, length-append}
 use Rattle.definitions.specs.declared.Outcome.{Outcome}
 use Rattle.definitions.specs.declared.Outcome.the-variants.{Real, Dummy, Idle, None}
 use Rattle.definitions.specs.declared.Answer.the-variants.{Slot}
 use Rattle.definitions.specs.Answers.{values}
-use Rattle.grammar.specs.Numerals.{decimal}
 use Rattle.grammar.specs.Templates.{isGap, filled}
 use Rattle.grammar.specs.Printout.{printed}
 use Rattle.grammar.proofs.Decimals.{decimal-length}

@@ -11,8 +11,6 @@ use Rattle.grammar.specs.declared.Call.{Call}
 use Rattle.definitions.specs.declared.Answer.{Answer}
 use Rattle.definitions.specs.declared.Answer.the-variants.{Refused}
 use Rattle.definitions.specs.State.{Core}
-use Rattle.definitions.specs.Checks.{Result, refused}
-use Rattle.definitions.specs.Core.{step}
 use Rattle.grammar.specs.declared.Line.{Line}
 use Rattle.grammar.specs.declared.Line.the-variants.{Form, Refused as Unread}
 use Rattle.grammar.specs.Bytes.{Unbroken}
@@ -30,7 +28,6 @@ use Rattle.tables.specs.Promise.{Meets}
 use Rattle.reader.specs.declared.Span.{Span}
 use Rattle.reader.specs.LineSpans.{between, spanAt, LineEnd}
 use Rattle.reader.proofs.LineEnds.{span-end, span-feed, span-last}
-use Rattle.script.specs.declared.Progress.{Progress}
 use Rattle.script.specs.Pieces.{ahead, Walked}
 use Rattle.script.proofs.LinePrinted.{closed-printed, open-printed}
 

@@ -19,7 +19,7 @@ use Rattle.tables.specs.Meaning.{coreOf}
 use Rattle.tables.specs.Invariant.{Valid}
 use Rattle.opening.proofs.EmptyTables.{emptyControl, emptyTables}
 use Rattle.tables.proofs.Promises.{coreOf-shut}
-use Rattle.script.specs.Pieces.{ahead, Start, Piece, Written, started, piece}
+use Rattle.script.specs.Pieces.{ahead, Piece, Written, started, piece}
 use Rattle.script.specs.PiecesExample.{twoLines, buffer, progress, ThreePieces, PiecesExist}
 use Rattle.script.proofs.LinePrinted.{ahead-none}
 use Rattle.script.proofs.PiecesPrinted.{walked-none, start-read, start-long}

@@ -10,9 +10,9 @@ use Rattle.definitions.specs.declared.Answer.the-variants.{Refused}
 use Rattle.definitions.specs.State.{Core, unopened}
 use Rattle.definitions.proofs.Laws.Tests.{lt-cases}
 use Rattle.grammar.specs.Bytes.{textLimit}
-use Rattle.grammar.specs.Printout.{printed, printedFrom, printout}
+use Rattle.grammar.specs.Printout.{printed, printout}
 use Rattle.printer.specs.Printed.{lineRoom, Printed}
-use Rattle.printer.proofs.Appending.{appended-front, appended-length}
+use Rattle.printer.proofs.Appending.{appended-front}
 use Rattle.tables.specs.declared.Control.{Control}
 use Rattle.tables.specs.Tables.{Tables}
 use Rattle.tables.specs.Meaning.{coreOf}

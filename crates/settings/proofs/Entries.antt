@@ -9,14 +9,8 @@ use lib.ListN.{length, length-set}
 use Rattle.definitions.specs.Sizes.{ids}
 use Rattle.tables.specs.Tables.{rateColumn, burstColumn, levelColumn, termColumns}
 use Rattle.tables.specs.Tables.{poolColumn, countColumn, stockColumns, field, written}
-use Rattle.tables.proofs.Fields.{OnlyAt, only-set, field-own}
+use Rattle.tables.proofs.Fields.{OnlyAt, only-set, store-own}
 use Rattle.settings.specs.Writes.{withTerms, withBare}
-
--- a store into one of three columns, in a table that is long enough
-store-own : (xs : List ℕ) (k m id v : ℕ) → k < 3 → id < ids → length xs ≡ 3 * ids
-    → field m (written xs k id v) id ≡ cond (eqb m k) v (field m xs id)
-unfolding ids
-store-own xs k m id v h below size = field-own xs k m id v below (omega arith)
 
 module _ (xs : List ℕ) (size : length xs ≡ termColumns * ids) (id rate burst level : ℕ) (below : id < ids) where
   pub terms-length : length (withTerms xs id rate burst level) ≡ termColumns * ids
@@ -27,11 +21,11 @@ module _ (xs : List ℕ) (size : length xs ≡ termColumns * ids) (id rate burst
       → field m (withTerms xs id rate burst level) id
       ≡ cond (eqb m levelColumn) level (cond (eqb m burstColumn) burst (cond (eqb m rateColumn) rate (field m xs id)))
   terms-own m =
-      store-own (written (written xs rateColumn id rate) burstColumn id burst) levelColumn m id level (omega arith) below
-      (simp length-set size)
+      store-own (written (written xs rateColumn id rate) burstColumn id burst) termColumns levelColumn m id level
+      (simp length-set size) (omega arith) below
       ∙ ap (cond (eqb m levelColumn) level)
-      (store-own (written xs rateColumn id rate) burstColumn m id burst (omega arith) below (simp length-set size)
-      ∙ ap (cond (eqb m burstColumn) burst) (store-own xs rateColumn m id rate (omega arith) below size))
+      (store-own (written xs rateColumn id rate) termColumns burstColumn m id burst (simp length-set size) (omega arith) below
+      ∙ ap (cond (eqb m burstColumn) burst) (store-own xs termColumns rateColumn m id rate size (omega arith) below))
 
   pub terms-only : OnlyAt id xs (withTerms xs id rate burst level)
   terms-only =
@@ -45,8 +39,8 @@ module _ (xs : List ℕ) (size : length xs ≡ stockColumns * ids) (id : ℕ) (b
   pub bare-own : (m : ℕ)
       → field m (withBare xs id) id ≡ cond (eqb m countColumn) 0 (cond (eqb m poolColumn) 0 (field m xs id))
   bare-own m =
-      store-own (written xs poolColumn id 0) countColumn m id 0 (omega arith) below (simp length-set size)
-      ∙ ap (cond (eqb m countColumn) 0) (store-own xs poolColumn m id 0 (omega arith) below size)
+      store-own (written xs poolColumn id 0) stockColumns countColumn m id 0 (simp length-set size) (omega arith) below
+      ∙ ap (cond (eqb m countColumn) 0) (store-own xs stockColumns poolColumn m id 0 size (omega arith) below)
 
   pub bare-only : OnlyAt id xs (withBare xs id)
   bare-only = only-set xs _ countColumn id 0 below (only-set xs xs poolColumn id 0 below (λ m j l other. refl))

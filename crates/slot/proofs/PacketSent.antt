@@ -13,7 +13,7 @@ use borrow.Author.Tests.{eq-eqb, ne-eqb, eqb-true, not-false}
 use Rattle.definitions.specs.declared.Packet.{Packet}
 use Rattle.definitions.specs.declared.Outcome.{Outcome}
 use Rattle.definitions.specs.declared.Outcome.the-variants.{Real}
-use Rattle.definitions.specs.Sizes.{ids, places, longest}
+use Rattle.definitions.specs.Sizes.{places, longest}
 use Rattle.definitions.specs.Client.{Kind, absent, indifferent, private, isIndifferent}
 use Rattle.definitions.specs.Stock.{Stock, empty, spent}
 use Rattle.definitions.specs.State.{updated, put, withoutFirst}
@@ -27,12 +27,12 @@ use Rattle.order.specs.Owner.{owner, placesOf}
 use Rattle.order.proofs.OrderWalk.{ordered-walked}
 use Rattle.order.proofs.FirstPlaceTaken.{placesOf-taken, taken-others, taken-withoutFirst}
 use Rattle.tables.specs.declared.Control.{Control}
-use Rattle.tables.specs.Tables.{Tables, tables, poolColumn, headColumn, countColumn, stockColumns, entry, written, field, poolAt, headAt, countAt, ring}
+use Rattle.tables.specs.Tables.{Tables, tables, poolColumn, headColumn, countColumn, stockColumns, written, field, poolAt, headAt, countAt, ring}
 use Rattle.tables.specs.Controls.{withWaiting}
 use Rattle.tables.specs.Meaning.{kindAt, packetAt, queueAt, clientAt, clientsOf, stockAt, stocksOf, orderOf, sideOf, stateOf}
 use Rattle.tables.specs.Invariant.{Shape}
 use Rattle.tables.proofs.MarkedKinds.{kind-indifferent, kind-private}
-use Rattle.tables.proofs.Fields.{only-set, field-own}
+use Rattle.tables.proofs.Fields.{only-set, store-own}
 use Rattle.tables.proofs.QueueRing.{placeOf, place-within, remainder-small, ring-pop-remainder}
 use Rattle.tables.proofs.Touch.{Touch, touch-stocks, touch-shape, waits-here, client-own, stock-own, rates-kept}
 use Rattle.slot.specs.Sends.{Settled, popped, Unlinked, Sender, stateAfter, Spent}
@@ -50,10 +50,6 @@ module _ (c : Control) (t : Tables) (id : ℕ) (sender : Sender c t id) where
 
   abbrev place : ℕ
   place = id * places + head
-
-  pub room : (k : ℕ) → k < stockColumns → entry k id < length (t .stocks)
-  unfolding ids
-  room k l = omega (arith, old .sizes .stocks, sender .below)
 
   -- the mark says whether a packet waits
   pub marked-some : marked (c .waiting) id ≡ true → 0 < count
@@ -174,9 +170,10 @@ module _ (c : Control) (t : Tables) (id : ℕ) (sender : Sender c t id) where
           ≡ cond (eqb m countColumn) (count - 1) (cond (eqb m headColumn) ((head + 1) % places) (field m (t .stocks) id))
       unfolding popped
       own m =
-          field-own (written (t .stocks) headColumn id ((head + 1) % places)) countColumn m id (count - 1) (sender .below)
-          (simp length-set (room countColumn (omega arith)))
-          ∙ rw (field-own (t .stocks) headColumn m id ((head + 1) % places) (sender .below) (room headColumn (omega arith)))
+          store-own (written (t .stocks) headColumn id ((head + 1) % places)) stockColumns countColumn m id (count - 1)
+          (simp length-set (old .sizes .stocks)) (omega arith) (sender .below)
+          ∙ rw (store-own (t .stocks) stockColumns headColumn m id ((head + 1) % places) (old .sizes .stocks) (omega arith)
+          (sender .below))
 
       stock-after : stockAt u id ≡ spent (stockAt t id)
       unfolding stockAt queueAt packetAt spent

@@ -6,6 +6,7 @@ use mathlib.Core.Logic.{_≢_}
 use mathlib.Core.Bool.{cond}
 use mathlib.Core.List.{List}
 use native.Mathlib.Nat.{mod-lt}
+use native.Mathlib.Omega.{arith}
 use lib.Arith.{digits-div, digits-mod}
 use lib.Dec.{eqb, lit<}
 use lib.ListN.{length, set}
@@ -48,6 +49,12 @@ field-own table k m id v below room =
     eqb-cases (λ b. field m (set table (k * ids + id) v) id ≡ cond b v (field m table id)) m k
     (λ e. rw e (field-set-same table k id v room))
     (field-set-field table k id v below m id below)
+
+-- the same in a table of so many columns, which has room for every id in each
+pub store-own : (table : List ℕ) (columns k m id v : ℕ) → length table ≡ columns * ids → k < columns → id < ids
+    → field m (set table (k * ids + id) v) id ≡ cond (eqb m k) v (field m table id)
+unfolding ids
+store-own table columns k m id v size column below = field-own table k m id v below (omega arith)
 
 -- two tables that differ at one id alone
 abbrev pub OnlyAt : ℕ → List ℕ → List ℕ → Type 0

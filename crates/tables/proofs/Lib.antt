@@ -5,4 +5,5 @@ pub mod MarkedKinds
 pub mod Fields
 pub mod QueueRing
 pub mod Touch
+pub mod PoolWritten
 pub mod Runs

@@ -27,10 +27,10 @@ use Rattle.order.proofs.OrderWalk.{ordered-walked}
 use Rattle.tables.specs.declared.Control.{Control}
 use Rattle.tables.specs.Controls.{withWaiting}
 use Rattle.tables.specs.Tables.{Tables, tables, rateColumn, burstColumn, levelColumn, termColumns}
-use Rattle.tables.specs.Tables.{poolColumn, headColumn, countColumn, entry, field, written, levelAt, headAt, countAt, ring}
+use Rattle.tables.specs.Tables.{poolColumn, headColumn, countColumn, stockColumns, field, written, levelAt, headAt, countAt, ring}
 use Rattle.tables.specs.Meaning.{kindAt, packetAt, queueAt, clientAt, clientsOf, stockAt, stocksOf, orderOf, sideOf, stateOf}
 use Rattle.tables.specs.Invariant.{Shape}
-use Rattle.tables.proofs.Fields.{OnlyAt, only-set, field-own, place-owner}
+use Rattle.tables.proofs.Fields.{OnlyAt, only-set, store-own, place-owner}
 use Rattle.tables.proofs.QueueRing.{placeOf, place-within, ring-push, ring-free, packets-same, packets-append}
 use Rattle.tables.proofs.Touch.{Touch, touch-clients, touch-stocks, touch-shape, client-own, stock-own, rates-kept}
 
@@ -89,14 +89,14 @@ module _ (c : Control) (t : Tables) (old : Shape c t) (id : ℕ) (p : Packet) (b
       ≡ cond (eqb column levelColumn) (levelAt (t .terms) id - shares) (field column (t .terms) id)
   unfolding ids
   paid column =
-      field-own (t .terms) levelColumn column id (levelAt (t .terms) id - shares) below (omega (arith, old .sizes .terms))
+      store-own (t .terms) termColumns levelColumn column id (levelAt (t .terms) id - shares) (old .sizes .terms) (omega arith) below
 
   counted : (column : ℕ)
       → field column (countedStocks t id) id
       ≡ cond (eqb column countColumn) (countAt (t .stocks) id + 1) (field column (t .stocks) id)
   unfolding ids
   counted column =
-      field-own (t .stocks) countColumn column id (countAt (t .stocks) id + 1) below (omega (arith, old .sizes .stocks))
+      store-own (t .stocks) stockColumns countColumn column id (countAt (t .stocks) id + 1) (old .sizes .stocks) (omega arith) below
 
   one-more : countAt (countedStocks t id) id ≡ suc (countAt (t .stocks) id)
   one-more = omega (arith, counted countColumn)

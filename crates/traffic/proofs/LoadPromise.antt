@@ -1,12 +1,7 @@
 -- A load keeps its promise: one number of the stocks is raised, the pool of the id, and no client is touched. Assumes nothing.
-use Prim.Native.Nat.{ℕ, _+_, _*_, _≤_, _<_}
-use mathlib.Core.Path.{_≡_, refl, sym, ap, _∙_}
+use Prim.Native.Nat.{ℕ, _+_, _≤_, _<_}
+use mathlib.Core.Path.{_≡_, sym, ap, _∙_}
 use mathlib.Core.Logic.{_≢_}
-use mathlib.Core.Bool.{cond}
-use mathlib.Core.List.{map}
-use native.Mathlib.Omega.{arith}
-use lib.Dec.{eqb}
-use lib.ListN.{length, length-set}
 use borrow.Author.Tests.{lt-ltb, ltb-true, leb-true}
 use Rattle.definitions.specs.Event.{Load}
 use Rattle.definitions.specs.declared.Answer.the-variants.{Accepted, Refused}
@@ -17,75 +12,27 @@ use Rattle.definitions.specs.Checks.{activeChecks, loadChecks}
 use Rattle.definitions.proofs.Laws.Checked.{Passed}
 use Rattle.tables.specs.declared.Control.{Control}
 use Rattle.tables.specs.declared.Answered.{Answered}
-use Rattle.tables.specs.Tables.{Tables, tables, poolColumn, headColumn, countColumn, entry, field, written, poolAt, ring}
-use Rattle.tables.specs.Meaning.{packetAt, queueAt, clientAt, clientsOf, stockAt, stocksOf, orderOf, sideOf, stateOf}
+use Rattle.tables.specs.Tables.{Tables, poolAt}
+use Rattle.tables.specs.Meaning.{queueAt, clientAt, clientsOf, stockAt, stocksOf, orderOf, sideOf, stateOf}
 use Rattle.tables.specs.Invariant.{Shape, SoundCore, Valid}
 use Rattle.tables.specs.Numbers.{refusal}
 use Rattle.tables.specs.Promise.{Meets}
 use Rattle.tables.proofs.Promises.{refused-with, opened, all-passed, sound-before, accepted-with}
 use Rattle.tables.proofs.Checkings.{loads}
-use Rattle.tables.proofs.Fields.{only-set, field-own}
-use Rattle.tables.proofs.Touch.{Touch, touch-stocks, touch-shape, waits-here, stock-own, rates-kept}
+use Rattle.tables.proofs.Touch.{stock-own}
+use Rattle.tables.proofs.PoolWritten.{pooled, pooled-shape, pooled-stocks}
 
 -- the tables after a load
 abbrev pub loadedTables : Tables → ℕ → ℕ → Tables
-loadedTables t id dummies =
-    tables (t .terms) (written (t .stocks) poolColumn id (poolAt (t .stocks) id + dummies)) (t .handles) (t .lengths) (t .links)
+loadedTables t id dummies = pooled t id (poolAt (t .stocks) id + dummies)
 
 module _ (c : Control) (t : Tables) (old : Shape c t) (id dummies : ℕ) (below : id < ids) where
-  abbrev after : Tables
-  after = loadedTables t id dummies
-
-  room : entry poolColumn id < length (t .stocks)
-  unfolding ids
-  room = omega (arith, old .sizes .stocks)
-
-  own : (column : ℕ)
-      → field column (after .stocks) id
-      ≡ cond (eqb column poolColumn) (poolAt (t .stocks) id + dummies) (field column (t .stocks) id)
-  own column = field-own (t .stocks) poolColumn column id (poolAt (t .stocks) id + dummies) below room
-
-  stock-after : stockAt after id ≡ loaded (stockAt t id) dummies
-  unfolding stockAt queueAt packetAt loaded
-  stock-after = λ i. record {
-    queue = map (packetAt t) (ring id (own headColumn i) (own countColumn i));
-    pool = own poolColumn i;
-  }
-
-  touch : Touch c t old c after id
-  unfolding packetAt clientAt
-  touch = record {
-    below = below;
-    sizes = record {
-      terms = old .sizes .terms;
-      stocks = length-set (t .stocks) _ _ ∙ old .sizes .stocks;
-      handles = old .sizes .handles;
-      lengths = old .sizes .lengths;
-    };
-    onlyTerms = λ column j l other. refl;
-    onlyStocks = only-set (t .stocks) (t .stocks) poolColumn id _ below (λ column j l other. refl);
-    packets = λ p other. refl;
-    indifferents = λ j other. refl;
-    privates = λ j other. refl;
-    waitings = λ j other. refl;
-    head = rw (own headColumn) (old .heads id below);
-    waits = rw (own countColumn) (waits-here c t old id below);
-    apart = old .apart id;
-    ratesHeld = rates-kept c t old id below (clientAt c t id) refl;
-    sound = old .sound;
-    order = old .order;
-    ordered = old .ordered;
-    placed = rw (own headColumn, own countColumn) (old .placed id below);
-    others = λ j other. refl;
-  }
-
   pub load-shape : Shape c (loadedTables t id dummies)
-  load-shape = touch-shape c t old c after id touch
+  load-shape = pooled-shape c t old id _ below
 
-  stocks-after : stocksOf after ≡ put (stocksOf t) id (loaded (stocksOf t id) dummies)
-  stocks-after =
-      touch-stocks c t old c after id touch
-      ∙ ap (put (stocksOf t) id) (stock-after ∙ ap (λ (k : Stock). loaded k dummies) (sym (stock-own c t old id below)))
+  stock-loaded : record { queue = queueAt t id; pool = poolAt (t .stocks) id + dummies } ≡ loaded (stocksOf t id) dummies
+  unfolding loaded stockAt
+  stock-loaded = ap (λ (k : Stock). loaded k dummies) (sym (stock-own c t old id below))
 
   pub load-state : stateOf c (loadedTables t id dummies)
       ≡ updated (stateOf c t) (clientsOf c t) (stocked (sideOf c t) id (loaded (stocksOf t id) dummies))
@@ -94,7 +41,11 @@ module _ (c : Control) (t : Tables) (old : Shape c t) (id dummies : ℕ) (below 
     threshold = c .threshold;
     discipline = c .discipline;
     clients = clientsOf c t;
-    side = record { generator = c .generator .value; order = orderOf t; stocks = stocks-after i };
+    side = record {
+      generator = c .generator .value;
+      order = orderOf t;
+      stocks = (pooled-stocks c t old id _ below ∙ ap (put (stocksOf t) id) stock-loaded) i;
+    };
   }
 
 -- A load in the code: what its number says, and what it promises.

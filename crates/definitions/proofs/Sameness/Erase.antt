@@ -4,12 +4,11 @@
 use Prim.Native.Nat.{ℕ}
 use mathlib.Core.Path.{_≡_, refl, ap}
 use mathlib.Core.Bool.{Bool, true, false, cond, not, _&&_}
-use mathlib.Core.List.{List}
 use lib.Dec.{eqb}
 use borrow.Author.Tests.{eqb-true, eqb-false}
 use Rattle.definitions.specs.Client.{Client, Kind, isPrivate}
 use Rattle.definitions.specs.Stock.{Stock, bare}
-use Rattle.definitions.specs.State.{Side, State, Core, unopened, running, put}
+use Rattle.definitions.specs.State.{State, Core, unopened, running, put}
 
 -- whether a client at an id is a private neighbour of the chosen one
 unfoldable pub hidden : ℕ → ℕ → Client → Bool

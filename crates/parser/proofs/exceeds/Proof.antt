@@ -1,6 +1,5 @@
 -- `parser::exceeds` meets its contract: what has passed 64 bits is above every limit. Assumes nothing.
 use native.Mathlib.Omega.{arith}
-use borrow.Author.Needs.{needs}
 use Rattle.parser.proofs.NumeralWalk.{exceeds-past, exceeds-exact}
 use Rattle.parser.proofs.exceeds.Statement.{statement}
 use Rattle.parser.proofs.exceeds.Tie as tie

@@ -2,7 +2,7 @@
 -- Assumes nothing.
 use mathlib.Core.Path.{refl, sym, _∙_}
 use mathlib.Core.List.{[], _∷_}
-use Rattle.grammar.specs.declared.Call.the-variants.{Leave, Load}
+use Rattle.grammar.specs.declared.Call.the-variants.{Load}
 use Rattle.grammar.specs.Bytes.{bytes}
 use Rattle.grammar.specs.Grammar.{nth, rule, leaveForms, loadForms}
 use Rattle.parser.specs.Texts.{plain}

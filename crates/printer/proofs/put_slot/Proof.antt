@@ -5,7 +5,7 @@ use Prim.Native.Nat.{ℕ}
 use mathlib.Core.Path.{ap}
 use mathlib.Core.List.{List}
 use Rattle.definitions.specs.declared.Outcome.{Outcome}
-use Rattle.definitions.specs.declared.Outcome.the-variants.{Real, Dummy, Idle, None}
+use Rattle.definitions.specs.declared.Outcome.the-variants.{Real, Dummy, Idle}
 use Rattle.definitions.specs.declared.Answer.the-variants.{Slot}
 use Rattle.definitions.specs.Answers.{values}
 use Rattle.grammar.specs.Templates.{filled}

@@ -1,6 +1,6 @@
 -- `script::goes_on` meets its contract: it asks for the room only where the text has not ended. Assumes nothing.
 use Prim.Native.Nat.{_+_}
-use mathlib.Core.Path.{_≡_, sym, ap, _∙_}
+use mathlib.Core.Path.{sym, ap, _∙_}
 use mathlib.Core.Bool.{Bool, _&&_, not}
 use lib.Dec.{leb}
 use borrow.Author.Needs.{needs}
