@@ -67,17 +67,17 @@ unfolding changed retuned joining sideAfterChange emptied onChange checked chang
 change-facts = record {
   change-keeps = λ s id kind rate burst ok k.
       record {
-        stock-is = rw (change-stock s id kind rate burst ok, ← k, sameKind-refl);
-        level-is = rw (change-client s id kind rate burst ok, ← k, sameKind-refl);
+        stockIs = rw (change-stock s id kind rate burst ok, ← k, sameKind-refl);
+        levelIs = rw (change-client s id kind rate burst ok, ← k, sameKind-refl);
       };
   change-empties = λ s id kind rate burst ok k.
       record {
-        stock-is = rw (change-stock s id kind rate burst ok, sameKind-false (s .clients id .kind) (kindOf kind) k)
+        stockIs = rw (change-stock s id kind rate burst ok, sameKind-false (s .clients id .kind) (kindOf kind) k)
             (put-same (s .side .stocks) id bare);
-        level-is = rw (change-client s id kind rate burst ok, sameKind-false (s .clients id .kind) (kindOf kind) k);
+        levelIs = rw (change-client s id kind rate burst ok, sameKind-false (s .clients id .kind) (kindOf kind) k);
       };
-  change-within = λ s id kind rate burst p h. rw (p .named, p .active, p .typed, p .rated, p .fits, le-leb _ _ h);
-  change-past = λ s id kind rate burst p h. rw (p .named, p .active, p .typed, p .rated, p .fits, lt-leb _ _ h);
+  change-within = λ s id kind rate burst p h. rw (p .named, p .active, p .kinded, p .rated, p .fits, le-leb _ _ h);
+  change-past = λ s id kind rate burst p h. rw (p .named, p .active, p .kinded, p .rated, p .fits, lt-leb _ _ h);
 }
 
 -- a call with checks that is refused, by 19 or by a check, leaves the core as it was

@@ -38,7 +38,7 @@ steppedBy-seeded (suc n) v seeded = stepped-seeded (steppedBy n v) (steppedBy-se
 draw-seeded : (generator : ℕ) (weight : ℕ → ℕ) → Seeded generator → Seeded (draw generator weight .sample .generator)
 unfolding draw
 draw-seeded generator weight seeded =
-    rw (sample-sampled _ generator .generator-is) (steppedBy-seeded _ generator seeded)
+    rw (sample-sampled _ generator .generatorIs) (steppedBy-seeded _ generator seeded)
 
 turnBy-seeded : (rule : Rule) (s : State) → Seeded (s .side .generator) → Seeded (turnBy rule s .generator)
 unfolding turnBy firstTurn

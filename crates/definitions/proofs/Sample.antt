@@ -51,16 +51,16 @@ pub sampleFrom-sampled : (sum generator left steps value : ℕ) → value ≡ st
     → Sampled sum generator steps (steps + left) (sampleFrom sum left steps value)
 unfolding sampleFrom steppedBy
 sampleFrom-sampled sum generator zero steps value e =
-    record { stepsLow = omega arith; stepsHigh = omega arith; generator-is = e; target-is = refl }
+    record { stepsLow = omega arith; stepsHigh = omega arith; generatorIs = e; targetIs = refl }
 sampleFrom-sampled sum generator (suc left) steps value e =
     let later = sampleFrom-sampled sum generator left (suc steps) (stepped value) (ap stepped e) in
     cond-both (Sampled sum generator steps (steps + suc left)) (ltb value (evenSpan sum))
-    (record { stepsLow = omega arith; stepsHigh = omega arith; generator-is = e; target-is = refl })
+    (record { stepsLow = omega arith; stepsHigh = omega arith; generatorIs = e; targetIs = refl })
     (record {
       stepsLow = omega (arith, later .stepsLow);
       stepsHigh = omega (arith, later .stepsHigh);
-      generator-is = later .generator-is;
-      target-is = later .target-is;
+      generatorIs = later .generatorIs;
+      targetIs = later .targetIs;
     })
 
 pub sample-sampled : Sampling
@@ -69,7 +69,7 @@ sample-sampled sum generator = sampleFrom-sampled sum generator throws 1 (steppe
 
 -- the target is below the sum
 pub sample-below : (sum generator : ℕ) → 0 < sum → sample sum generator .target < sum
-sample-below sum generator some = rw (sample-sampled sum generator .target-is) (mod-lt (sample sum generator .generator) some)
+sample-below sum generator some = rw (sample-sampled sum generator .targetIs) (mod-lt (sample sum generator .generator) some)
 
 -- ---- no sum of rates throws away two values in a row: after one of the highest values the generator gives a low one
 

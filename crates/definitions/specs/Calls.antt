@@ -36,6 +36,7 @@ module _ (s : State) (id : ℕ) where
       checked (leaveChecks s id) (unchanged (running s))
       (accepted (updated s (put (s .clients) id nobody) (emptied (s .side) id)))
 
+  -- "Load adds dummies to a private pool."
   unfoldable pub onLoad : ℕ → Result
   onLoad dummies =
       checked (loadChecks s id dummies) (unchanged (running s))
@@ -52,6 +53,7 @@ module _ (s : State) (id : ℕ) where
     stocks = put (s .side .stocks) id (queued (s .side .stocks id) p);
   }
 
+  -- "Arrive puts one packet last in its client's queue. For an indifferent client it also takes 1024 from the bucket."
   unfoldable pub onArrive : Packet → Result
   onArrive p =
       checked (arriveChecks s id p) (unchanged (running s))

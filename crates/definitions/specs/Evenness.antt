@@ -26,8 +26,8 @@ steppedBy (suc n) generator = stepped (steppedBy n generator)
 pub record Sampled (sum generator least most : ℕ) (s : Sample) : Type 0 where
   pub stepsLow : least ≤ s .steps
   pub stepsHigh : s .steps ≤ most
-  pub generator-is : s .generator ≡ steppedBy (s .steps) generator
-  pub target-is : s .target ≡ s .generator % sum
+  pub generatorIs : s .generator ≡ steppedBy (s .steps) generator
+  pub targetIs : s .target ≡ s .generator % sum
 
 -- "The draw now gives the target, the new generator state and the number of steps taken": one step, and one more for each throw,
 -- of which there are at most eight. For any sum and any generator.

@@ -71,14 +71,14 @@ pub record TickFacts : Type 0 where
 
 -- what an id holds in a core: queue and pool, and its bucket
 pub record Has (core : Core) (id : ℕ) (k : Stock) (level : ℕ) : Type 0 where
-  pub stock-is : stockOf core id ≡ k
-  pub level-is : clientOf core id .level ≡ level
+  pub stockIs : stockOf core id ≡ k
+  pub levelIs : clientOf core id .level ≡ level
 
 -- that a change passes the checks before the threshold's: 4, 5, 7, 8 and 9
 pub record PassesTo10 (s : State) (id kind rate burst : ℕ) : Type 0 where
   pub named : ltb id ids ≡ true
   pub active : isActive (s .clients id .kind) ≡ true
-  pub typed : isActive (kindOf kind) ≡ true
+  pub kinded : isActive (kindOf kind) ≡ true
   pub rated : within 1 shares rate ≡ true
   pub fits : burstFits kind burst ≡ true
 

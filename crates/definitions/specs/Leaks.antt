@@ -13,7 +13,7 @@ use Rattle.definitions.specs.Stock.{Stock, empty}
 use Rattle.definitions.specs.State.{Side, State, running, updated, put, without}
 use Rattle.definitions.specs.Checks.{Result, accepted, checked, unchanged, changeChecks}
 use Rattle.definitions.specs.Calls.{sideAfterChange}
-use Rattle.definitions.specs.Tick.{Rule, rule1, rule2, rule3, Turn, turn}
+use Rattle.definitions.specs.Tick.{Rule, rule1, rule2, rule3, Turn, withId, turn}
 use Rattle.definitions.specs.History.{Scheduler, schedulerBy}
 use Rattle.definitions.specs.Sameness.{Sameness}
 use Rattle.definitions.specs.Altered.{byTurn, withArrive, tokenLeft, arriveIf, withChange}
@@ -42,12 +42,9 @@ unfoldable pub idles : Stock → Bool
 idles k = empty (k .queue) && eqb (k .pool) 0
 
 unfoldable pub turnHandedOn : State → Turn
-turnHandedOn s = record {
-  rule = turn s .rule;
-  id = cond (isRule2 (turn s .rule) && idles (s .side .stocks (turn s .id))) (nextPrivate (s .clients) (turn s .id)) (turn s .id);
-  draws = turn s .draws;
-  generator = turn s .generator;
-}
+turnHandedOn s =
+    withId (turn s)
+    (cond (isRule2 (turn s .rule) && idles (s .side .stocks (turn s .id))) (nextPrivate (s .clients) (turn s .id)) (turn s .id))
 
 abbrev pub idleHandedOn : Scheduler
 idleHandedOn = byTurn turnHandedOn

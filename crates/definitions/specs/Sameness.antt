@@ -121,7 +121,7 @@ pub record LooksSame (chosen : ℕ) (t : Trace) (x : Holdings) (u : Trace) (y : 
   pub settings : answersOf chosen (λ p d. isSetting (d .event)) t ≡ answersOf chosen (λ p d. isSetting (d .event)) u
   -- every slot's rule, "and the picks under rule 2"
   pub slots : log chosen (λ p d. isTick (d .event)) (λ d. d .pick) t ≡ log chosen (λ p d. isTick (d .event)) (λ d. d .pick) u
-  -- beyond the paper's words: what was drawn in every slot, its targets, sums and steps
+  -- beyond the paper's words: what was drawn in every slot, with its targets, sums, generators and steps
   pub draws : log chosen (λ p d. isTick (d .event)) (λ d. d .draws) t ≡ log chosen (λ p d. isTick (d .event)) (λ d. d .draws) u
   -- the chosen client, active or not
   pub chosenDealings : SameDealings chosen chosen (λ p. true) t u

@@ -51,6 +51,10 @@ pub record Turn : Type 0 where
 abbrev pub byDraw : Rule → Drawn → Turn
 byDraw rule d = record { rule = rule; id = d .id; draws = d .sample ∷ []; generator = d .sample .generator }
 
+-- a turn that is another id's
+abbrev pub withId : Turn → ℕ → Turn
+withId t id = record { rule = t .rule; id = id; draws = t .draws; generator = t .generator }
+
 abbrev pub undrawn : Rule → ℕ → ℕ → Turn
 undrawn rule id generator = record { rule = rule; id = id; draws = []; generator = generator }
 

@@ -18,7 +18,7 @@ use Rattle.definitions.specs.Stock.{Stock}
 use Rattle.definitions.specs.State.{State, Core, unopened, running}
 use Rattle.definitions.specs.Checks.{Result, refused}
 use Rattle.definitions.specs.Calls.{onArrive}
-use Rattle.definitions.specs.Tick.{Rule, rule1, rule2, rule3, Turn, undrawn, contends, turn, slotted, onTick}
+use Rattle.definitions.specs.Tick.{Rule, rule1, rule2, rule3, Turn, withId, undrawn, contends, turn, slotted, onTick}
 use Rattle.definitions.specs.Core.{step}
 use Rattle.definitions.specs.History.{History, Scheduler, answerAt, pickOf, drawsOf, holdingsOf, schedulerBy, scheduler}
 use Rattle.definitions.specs.Sameness.{isTick}
@@ -81,12 +81,7 @@ concerns rule2 c k = isPrivate (c .kind)
 concerns rule3 c k = false
 
 unfoldable pub lowestTurn : State → Turn
-lowestTurn s = record {
-  rule = turn s .rule;
-  id = firstFrom 0 ids (λ id. concerns (turn s .rule) (s .clients id) (s .side .stocks id));
-  draws = turn s .draws;
-  generator = turn s .generator;
-}
+lowestTurn s = withId (turn s) (firstFrom 0 ids (λ id. concerns (turn s .rule) (s .clients id) (s .side .stocks id)))
 
 abbrev pub lowestId : Scheduler
 lowestId = byTurn lowestTurn

@@ -1,4 +1,4 @@
-// The types of the papers: what is handed to the core and what it answers. Their meaning stands in specs/.
+// The types of the papers that code and definitions share: a packet, an outcome, an answer. Their meaning stands in specs/.
 // Their numbers, too, as the code has them; for the proofs they stand in specs/Sizes.antt, and where two disagree a proof fails.
 
 // The largest number of a call, and the largest handle.
@@ -26,7 +26,7 @@ pub const LONGEST: u32 = 1518;
 // How many values a draw may throw away.
 pub const THROWS: u32 = 8;
 
-// The types of a client.
+// The kinds of a client, the paper's types.
 pub const INDIFFERENT: u32 = 1;
 
 pub const PRIVATE: u32 = 2;

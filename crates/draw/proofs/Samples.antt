@@ -8,9 +8,9 @@ use Rattle.definitions.specs.Sample.{Sample}
 use Rattle.definitions.specs.Draw.{draw}
 use Rattle.definitions.proofs.Sample.{sample-sampled}
 use Rattle.draw.specs.declared.Sample.{Sample as Given}
-use Rattle.draw.specs.Samples.{SameSample, drawsIn}
+use Rattle.draw.specs.Samples.{SameSample, drawsTold}
 
-pub same-draws : (r : Given) {s : Sample} → SameSample r s → 1 ≤ s .steps → drawsIn r ≡ s ∷ []
+pub same-draws : (r : Given) {s : Sample} → SameSample r s → 1 ≤ s .steps → drawsTold r ≡ s ∷ []
 same-draws r {s} same some =
     rw (ne-eqb (r .steps) 0 (λ e. omega (arith, same .steps, e, some)))
     (λ i. record { target = same .target i; sum = same .sum i; generator = same .generator i; steps = same .steps i } ∷ [])

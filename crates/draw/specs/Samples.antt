@@ -15,11 +15,11 @@ pub record SameSample (r : Given) (s : Sample) : Type 0 where
   pub steps : r .steps ≡ s .steps
 
 -- the draws that a sample stands for: one, or none where no step was taken
-abbrev pub drawsIn : Given → List Sample
-drawsIn r =
+abbrev pub drawsTold : Given → List Sample
+drawsTold r =
     cond (eqb (r .steps) 0) []
     (record { target = r .target; sum = r .sum; generator = r .generator .value; steps = r .steps } ∷ [])
 
-pub record Undrawn (generator : Generator) (r : Given) : Type 0 where
-  pub draws : drawsIn r ≡ []
-  pub generatorKept : r .generator ≡ generator
+-- the sample of no draw: the generator is as it was
+abbrev pub Undrawn : Generator → Given → Type 0
+Undrawn generator r = r ≡ record { target = 0; sum = 0; generator = generator; steps = 0 }

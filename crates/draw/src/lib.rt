@@ -17,7 +17,7 @@ ghost use Rattle.draw.specs.Samples.{SameSample, Undrawn};
 // How many values of 32 bits there are.
 const VALUES: u64 = 4294967296;
 
-// What a draw takes from the generator: the target, below the sum of the rates, the generator after it, and how many steps it took.
+// What a draw takes from the generator: the target, the sum of the rates in the draw, the generator after it, and how many steps it took.
 pub struct Sample {
     pub target: u32,
     pub sum: u64,

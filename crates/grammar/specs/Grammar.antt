@@ -34,7 +34,7 @@ behindText text (r ∷ rs) = record { template = text ++ r .template; call = r .
 unfoldable pub openForms : List Rule
 openForms = rule "(open # # #)" (λ n. Open (nth n 0) (nth n 1) (nth n 2)) ∷ []
 
--- "I (K)", "where K is `private R` (burst 0) or `indifferent R B`", for a call that takes id, type, rate and burst
+-- "I (K)", "where K is `private R` (burst 0) or `indifferent R B`", for a call that takes id, kind, rate and burst
 unfoldable pub termsForms : (ℕ → ℕ → ℕ → ℕ → Call) → List Rule
 termsForms call =
     rule "# (private #))" (λ n. call (nth n 0) privateKind (nth n 1) 0)

@@ -48,13 +48,15 @@ pub record Readable (text rest numbers : List ℕ) : Type 0 where
   pub bare : plain text ≡ true
   pub room : Room rest numbers
 
--- what stands behind the text of a join and of a change, whichever call it is
+-- terms that are refused
 abbrev pub noTerms : ℕ → Terms
 noTerms refused = record { refused = refused; id = 0; kind = 0; rate = 0; burst = 0 }
 
+-- the line that terms make, for a call that takes them
 abbrev pub termsLine : (ℕ → ℕ → ℕ → ℕ → Call) → Terms → Line
 termsLine call terms =
     cond (eqb (terms .refused) 0) (Form (call (terms .id) (terms .kind) (terms .rate) (terms .burst))) (Refused (terms .refused))
 
+-- what stands behind the text of a join and of a change, whichever call it is
 abbrev pub TermsRead : List ℕ → Terms → Type 0
 TermsRead rest terms = (call : ℕ → ℕ → ℕ → ℕ → Call) → parsedBy (termsForms call) rest ≡ termsLine call terms

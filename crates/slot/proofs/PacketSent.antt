@@ -36,7 +36,7 @@ use Rattle.tables.proofs.Fields.{only-set, store-own}
 use Rattle.tables.proofs.QueueRing.{placeOf, place-within, remainder-small, ring-pop-remainder}
 use Rattle.tables.proofs.Touch.{Touch, touch-stocks, touch-shape, waits-here, client-own, stock-own, rates-kept}
 use Rattle.slot.specs.Sends.{Settled, popped, Unlinked, Sender, stateAfter, Spent}
-use Rattle.slot.proofs.Turns.{order-owners}
+use Rattle.slot.proofs.ChosenTurn.{order-owners}
 
 module _ (c : Control) (t : Tables) (id : ℕ) (sender : Sender c t id) where
   abbrev old : Shape c t

@@ -29,7 +29,7 @@ use Rattle.slot.specs.declared.Sent.{Sent}
 use Rattle.slot.specs.Turns.{numberOf}
 use Rattle.slot.specs.Sends.{Sender, stateAfter, Spent}
 use Rattle.slot.specs.Slots.{unfilled, Due, Done}
-use Rattle.slot.proofs.Turns.{queue-empty}
+use Rattle.slot.proofs.ChosenTurn.{queue-empty}
 
 -- the generator is known to no mark and no table
 module _ (c : Control) (t : Tables) (g : Generator) where

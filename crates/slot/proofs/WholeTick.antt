@@ -18,7 +18,7 @@ use Rattle.definitions.proofs.Limits.{step-limits}
 use Rattle.definitions.proofs.Limits.Client.{BurstBy, rate-high, burst-high, Parts, limits-parts}
 use Rattle.generator.specs.declared.Generator.{Generator}
 use Rattle.draw.specs.declared.Sample.{Sample}
-use Rattle.draw.specs.Samples.{drawsIn, Undrawn}
+use Rattle.draw.specs.Samples.{drawsTold, Undrawn}
 use Rattle.marks.specs.Marks.{marked}
 use Rattle.tables.specs.declared.Control.{Control}
 use Rattle.tables.specs.declared.Answered.{Answered}
@@ -58,11 +58,11 @@ module _ (c : Control) (t : Tables) (valid : Valid c t) where
       told = ap (λ (x : Core). step x Tick) shut
 
   -- what was drawn: nothing on an unopened core, and else what the turn drew
-  pub undrawn-draws : c .opened ≡ false → {g : Generator} {r : Sample} → Undrawn g r → drawsIn r ≡ drawsOf (coreOf c t)
-  undrawn-draws e none = none .draws ∙ sym (ap drawsOf (coreOf-shut c t e))
+  pub undrawn-draws : c .opened ≡ false → {g : Generator} {r : Sample} → Undrawn g r → drawsTold r ≡ drawsOf (coreOf c t)
+  undrawn-draws e none = ap drawsTold none ∙ sym (ap drawsOf (coreOf-shut c t e))
 
   pub turn-draws : c .opened ≡ true → (choice : Choice) → Chosen choice (turn (stateOf c t))
-      → drawsIn (choice .sample) ≡ drawsOf (coreOf c t)
+      → drawsTold (choice .sample) ≡ drawsOf (coreOf c t)
   turn-draws e choice chosen = chosen .draws ∙ sym (ap drawsOf (coreOf-opened c t e))
 
   module _ (ready : c .opened ≡ true) where

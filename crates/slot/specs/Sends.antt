@@ -57,10 +57,11 @@ pub record Spent (c : Control) (t : Tables) (id : ℕ) (r : Sent) (u : Tables) :
   pub shape : Shape (r .control) u
   pub same : r .control ≡ withWaiting c (r .control .waiting)
 
--- Sending reads and writes no terms: it is so for whatever terms the clients have.
+-- Sending reads and writes no terms. There are terms with which the id may send, ..
 abbrev pub SomeSender : Control → List ℕ → List ℕ → List ℕ → List ℕ → ℕ → Type 0
 SomeSender c stocks handles lengths links id = (terms : List ℕ) × Sender c (tables terms stocks handles lengths links) id
 
+-- .. and whatever the terms, if it may, it has sent.
 abbrev pub Spends : Control → List ℕ → List ℕ → List ℕ → List ℕ → ℕ → Sent → List ℕ → List ℕ → Type 0
 Spends c stocks handles lengths links id r stocks′ links′ =
     (terms : List ℕ)

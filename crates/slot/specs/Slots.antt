@@ -30,10 +30,11 @@ pub record Done (c : Control) (t : Tables) (r : Sent) (u : Tables) : Type 0 wher
   pub opened : r .control .opened ≡ c .opened
   pub indifferent : r .control .indifferent ≡ c .indifferent
 
--- Doing a turn reads and writes no terms: it is so for whatever terms the clients have.
+-- Doing a turn reads and writes no terms. There are terms with which it is due, ..
 abbrev pub SomeDue : Control → List ℕ → List ℕ → List ℕ → List ℕ → Choice → Type 0
 SomeDue c stocks handles lengths links choice = (terms : List ℕ) × Due c (tables terms stocks handles lengths links) choice
 
+-- .. and whatever the terms, if it is due, it is done.
 abbrev pub Does : Control → List ℕ → List ℕ → List ℕ → List ℕ → Choice → Sent → List ℕ → List ℕ → Type 0
 Does c stocks handles lengths links choice r stocks′ links′ =
     (terms : List ℕ)

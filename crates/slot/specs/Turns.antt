@@ -7,7 +7,7 @@ use Rattle.definitions.specs.Sizes.{ids}
 use Rattle.definitions.specs.Draw.{sumBelow, draw}
 use Rattle.definitions.specs.Tick.{Rule, rule1, rule2, rule3, Turn}
 use Rattle.draw.specs.Weights.{weightAt}
-use Rattle.draw.specs.Samples.{SameSample, drawsIn}
+use Rattle.draw.specs.Samples.{SameSample, drawsTold}
 use Rattle.tables.specs.declared.Control.{Control}
 use Rattle.tables.specs.Tables.{tables}
 use Rattle.tables.specs.Invariant.{SoundCore}
@@ -22,7 +22,7 @@ numberOf rule3 = 3
 pub record Chosen (r : Choice) (t : Turn) : Type 0 where
   pub rule : r .rule ≡ numberOf (t .rule)
   pub id : r .id ≡ t .id
-  pub draws : drawsIn (r .sample) ≡ t .draws
+  pub draws : drawsTold (r .sample) ≡ t .draws
   pub generator : r .sample .generator .value ≡ t .generator
 
 -- a choice by a draw among the marked ids
@@ -31,11 +31,11 @@ pub record DrawnAmong (by word value : ℕ) (terms : List ℕ) (r : Choice) : Ty
   pub id : r .id ≡ draw value (weightAt word terms) .id
   pub sample : SameSample (r .sample) (draw value (weightAt word terms) .sample)
 
--- the rates held are those of the private terms and those of the indifferent
+-- the rates held are those of the private clients and those of the indifferent
 abbrev pub HeldByBoth : Control → List ℕ → Type 0
 HeldByBoth c terms =
     c .rates ≡ sumBelow ids (weightAt (c .private) terms) + sumBelow ids (weightAt (c .indifferent) terms)
 
--- the core is sound, whatever there is to send: a choice goes by the marks and the order
+-- with some stocks, handles and lengths the core is sound: a choice looks at none of them
 abbrev pub SoundWith : Control → List ℕ → List ℕ → Type 0
 SoundWith c terms links = (k : List ℕ) × (h : List ℕ) × (l : List ℕ) × SoundCore c (tables terms k h l links)

@@ -31,7 +31,7 @@ ghost use Rattle.definitions.specs.Tick.{turn};
 ghost use Rattle.definitions.specs.History.{drawsOf};
 ghost use Rattle.marks.specs.Marks.{marked};
 ghost use Rattle.draw.specs.Weights.{weightAt};
-ghost use Rattle.draw.specs.Samples.{drawsIn};
+ghost use Rattle.draw.specs.Samples.{drawsTold};
 ghost use Rattle.order.specs.Order.{sentinel, Sound};
 ghost use Rattle.tables.specs.Tables.{tables, headAt, countAt};
 ghost use Rattle.tables.specs.Meaning.{packetAt, stateOf, coreOf};
@@ -66,7 +66,7 @@ struct Choice {
     sample: Sample,
 }
 
-// The rates of all private clients together. The control has those of all clients, so the type with fewer marks is summed up, and
+// The rates of all private clients together. The control has those of all clients, so the kind with fewer marks is summed up, and
 // none where nobody is indifferent.
 fn private_total(control: Control, terms: &[u32; TERMS]) -> u64
     requires { ⌜ HeldByBoth control (now terms) ⌝ }
@@ -323,7 +323,8 @@ fn refill_each(word: u64, terms: &mut [u32; TERMS])
     }
 }
 
-// What a tick gives: the answer with the control after it, and what was drawn.
+// What a tick gives: the answer with the control after it, and what was drawn; where nobody was, that has 0 steps, and nothing else
+// of it counts.
 pub struct Ticked {
     pub answered: Answered,
     pub sample: Sample,
@@ -343,7 +344,7 @@ pub fn tick(
         (tables (now (terms .entry)) (now (stocks .entry)) (now (handles .entry)) (now (lengths .entry)) (now (links .entry)))
         (r .answered)
         (tables (now (terms .exit)) (now (stocks .exit)) (now (handles .entry)) (now (lengths .entry)) (now (links .exit))) ⌝ }
-    ensures { λ r. ⌜ drawsIn (r .sample) ≡ drawsOf (coreOf control
+    ensures { λ r. ⌜ drawsTold (r .sample) ≡ drawsOf (coreOf control
         (tables (now (terms .entry)) (now (stocks .entry)) (now (handles .entry)) (now (lengths .entry)) (now (links .entry)))) ⌝ }
 {
     if !control.opened {

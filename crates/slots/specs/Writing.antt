@@ -1,4 +1,4 @@
--- What writing gave, beside the text whose printout was to be written: as many bytes were handed on as the printout has. Of a
+-- What writing gave, beside the text whose printout was to be written: the count that is returned is the length of the printout. Of a
 -- failed write nothing is said.
 use Prim.Native.Nat.{ℕ}
 use mathlib.Core.Path.{_≡_}

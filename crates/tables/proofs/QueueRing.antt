@@ -4,6 +4,7 @@ use Prim.Native.Nat.{ℕ, zero, suc, _+_, _*_, _%_, _≤_, _<_}
 use mathlib.Core.Path.{_≡_, refl, ap, ap₂, _∙_}
 use mathlib.Core.Logic.{_≢_}
 use mathlib.Core.List.{List, [], _∷_, _++_, map}
+use native.Mathlib.Nat.{mod-lt, mod-eq-of-lt}
 use native.Mathlib.Omega.{arith}
 use lib.ListN.{length, length-map}
 use Rattle.definitions.specs.declared.Packet.{Packet}
@@ -12,19 +13,17 @@ use Rattle.order.specs.Order.{sentinel, All, Absent}
 use Rattle.order.proofs.Owner.{place-below}
 use Rattle.tables.specs.Tables.{Tables, headAt, countAt, ring}
 use Rattle.tables.specs.Meaning.{packetAt, queueAt}
-use Rattle.tables.proofs.Fields.{ring-length}
+use Rattle.tables.proofs.Fields.{places-positive, ring-length}
 
 -- the place of an id that a number of its ring stands for
 abbrev pub placeOf : ℕ → ℕ → ℕ
 placeOf id k = id * places + k % places
 
 pub remainder-small : (k : ℕ) → k % places < places
-unfolding places
-remainder-small k = omega arith
+remainder-small k = mod-lt k places-positive
 
 pub remainder-again : (k : ℕ) → k % places % places ≡ k % places
-unfolding places
-remainder-again k = omega arith
+remainder-again k = mod-eq-of-lt (remainder-small k)
 
 remainder-suc : (a b : ℕ) → a % places ≡ b % places → suc a % places ≡ suc b % places
 unfolding places

@@ -1,7 +1,7 @@
 -- A run of the code: calls one after the other from an unopened core, each keeping its promise, with the answers that they
 -- gave. `CodeSameness` is demand 3 for any two runs: "one claim about two whole histories of any length, not a claim for each
 -- call" (paper 01, "Two histories"). What is compared is what the definitions compare: the answers are those of the code, and
--- what a client holds and whom a slot picks is read off the core that the tables mean.
+-- what a client holds, whom a slot picks and by which draws is read off the core that the tables mean.
 use Prim.Native.Nat.{ℕ}
 use mathlib.Core.Path.{_≡_}
 use mathlib.Core.Logic.{_≢_}

@@ -9,14 +9,14 @@ use Rattle.slot.proofs.pop.Statement.{statement}
 use Rattle.slot.proofs.pop.Tie as tie
 
 add-head : tie.Need-add-head
-unfolding ids places field
+unfolding ids
 add-head c = omega arith
 
 cast-head : tie.Need-cast-head
 cast-head c = search needs
 
 add-count : tie.Need-add-count
-unfolding ids places field
+unfolding ids
 add-count c = omega arith
 
 cast-count : tie.Need-cast-count
@@ -26,14 +26,14 @@ mul-first : tie.Need-mul-first
 mul-first c = search needs
 
 element-copy-out-first : tie.Need-element-copy-out-first
-unfolding ids places field
+unfolding ids
 element-copy-out-first c = omega arith
 
 mul-waiting : tie.Need-mul-waiting
 mul-waiting c = search needs
 
 element-copy-out-waiting : tie.Need-element-copy-out-waiting
-unfolding ids places field
+unfolding ids
 element-copy-out-waiting c = omega arith
 
 add-stocks : tie.Need-add-stocks

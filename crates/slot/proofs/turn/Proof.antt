@@ -1,8 +1,8 @@
 -- `slot::turn` meets its contract: each way through it is the rule of the definitions whose test the marks have passed.
 -- Assumes nothing.
 use mathlib.Core.Path.{refl, sym, _∙_}
-use Rattle.slot.proofs.Turns.{held-by-both, chosen-contender, chosen-earliest}
-use Rattle.slot.proofs.Turns.{chosen-private, chosen-nobody}
+use Rattle.slot.proofs.ChosenTurn.{held-by-both, chosen-contender, chosen-earliest}
+use Rattle.slot.proofs.ChosenTurn.{chosen-private, chosen-nobody}
 use borrow.Author.Needs.{needs}
 use Rattle.definitions.specs.Sizes.{places}
 use Rattle.slot.proofs.turn.Statement.{statement}

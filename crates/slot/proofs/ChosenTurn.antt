@@ -18,11 +18,11 @@ use Rattle.definitions.specs.Limits.{standing, ordered}
 use Rattle.definitions.specs.Checks.{activeRate, rates}
 use Rattle.definitions.proofs.Laws.Sums.{sumBelow-plus, anyBelow-true}
 use Rattle.definitions.proofs.Limits.Turns.{contends-contender}
-use Rattle.generator.specs.declared.Generator.{Generator}
+use Rattle.draw.specs.declared.Sample.{Sample}
 use Rattle.marks.specs.Marks.{marked}
 use Rattle.marks.proofs.IdSearch.{anyBelow-cong}
 use Rattle.draw.specs.Weights.{weightAt}
-use Rattle.draw.specs.Samples.{SameSample, Undrawn}
+use Rattle.draw.specs.Samples.{SameSample, drawsTold, Undrawn}
 use Rattle.draw.proofs.EqualWeights.{draw-cong}
 use Rattle.draw.proofs.Samples.{same-draws, draw-steps}
 use Rattle.order.specs.Order.{frontOf}
@@ -177,8 +177,8 @@ module _ (c : Control) (t : Tables) (core : SoundCore c t) where
             rule = rule;
             id = id ∙ ap owner e ∙ sym (order-some (core .shape .order) whole)
                 ∙ ap earliest (sym (order-owners c t (core .shape)));
-            draws = none .draws;
-            generator = ap (λ (g : Generator). g .value) (none .generatorKept);
+            draws = ap drawsTold none;
+            generator = ap (λ (x : Sample). x .generator .value) none;
           })
         where
           whole : (id : ℕ) → standing id (map owner (core .shape .order)) ≡ ordered (clients id) (stocks id)
@@ -203,4 +203,4 @@ module _ (c : Control) (t : Tables) (core : SoundCore c t) where
       unfolding turn ruleOf turnBy stateOf sideOf
       chosen-nobody any r rule id still =
           rw (sym some-contend ∙ none, sym some-private ∙ any)
-          (record { rule = rule; id = id; draws = still .draws; generator = ap (λ (g : Generator). g .value) (still .generatorKept) })
+          (record { rule = rule; id = id; draws = ap drawsTold still; generator = ap (λ (x : Sample). x .generator .value) still })
