@@ -34,6 +34,9 @@ pub const PRIVATE: u32 = 2;
 // The discipline by which the packet that was accepted earliest goes first.
 pub const FIRST_COME: u32 = 0;
 
+// The discipline by which a draw decides, weighted by the rates. None is above it.
+pub const WEIGHTED_DRAW: u32 = 1;
+
 // A packet: a handle, which the core carries and never reads, and a length in bytes.
 pub struct Packet {
     pub handle: u32,

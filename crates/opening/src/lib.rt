@@ -1,5 +1,6 @@
 // Where a core begins: unopened, and opened with empty tables.
 use definitions::SHARES;
+use definitions::WEIGHTED_DRAW;
 use generator::Generator;
 use order::END;
 use order::LINKS;
@@ -60,7 +61,7 @@ fn open_number(threshold: u32, discipline: u32, seed: u32) -> u32
     if SHARES < threshold {
         return 1;
     }
-    if 1 < discipline {
+    if WEIGHTED_DRAW < discipline {
         return 2;
     }
     if seed == 0 {

@@ -21,7 +21,7 @@ use Rattle.tables.specs.Invariant.{SoundCore}
 use Rattle.tables.proofs.QueueRing.{queue-length}
 use Rattle.tables.proofs.Touch.{stock-own}
 use Rattle.settings.specs.Writes.{Room, Ready}
-use Rattle.settings.proofs.Rates.{limits-own, rate-held}
+use Rattle.settings.proofs.HeldRates.{limits-own, rate-held}
 
 -- the terms of a client that passed their checks
 pub record Fitting (kind rate burst : ℕ) : Type 0 where

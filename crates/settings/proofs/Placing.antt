@@ -22,7 +22,7 @@ use Rattle.tables.proofs.Touch.{Touch, touch-clients, touch-shape, waits-here}
 use Rattle.settings.specs.Writes.{withTerms, ratesAfter, Recast, Emptied}
 use Rattle.settings.proofs.Remarks.{recast-kind}
 use Rattle.settings.proofs.Entries.{terms-length, terms-own, terms-only}
-use Rattle.settings.proofs.Rates.{limits-own, rates-traded}
+use Rattle.settings.proofs.HeldRates.{limits-own, rates-traded}
 use Rattle.settings.proofs.Emptying.{emptied-count}
 
 -- the tables after

@@ -16,7 +16,7 @@ use Rattle.tables.specs.Invariant.{Shape, SoundCore}
 use Rattle.tables.proofs.Touch.{Touch, touch-clients, touch-shape, waits-here, client-own}
 use Rattle.settings.specs.Writes.{withTerms, retunedLevel, ratesAfter}
 use Rattle.settings.proofs.Entries.{terms-length, terms-own, terms-only}
-use Rattle.settings.proofs.Rates.{limits-own, rates-traded}
+use Rattle.settings.proofs.HeldRates.{limits-own, rates-traded}
 
 -- control and tables after
 abbrev pub retunedControl : Control → Tables → ℕ → ℕ → Control

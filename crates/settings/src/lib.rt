@@ -26,7 +26,7 @@ ghost use Prim.Native.Nat.{ℕ, _+_, _-_, _*_, _^_, _≤_, _<_, min};
 ghost use Rattle.definitions.specs.Event.{Join, Change, Leave};
 ghost use Rattle.definitions.specs.Sizes.{ids, places, shares};
 ghost use Rattle.definitions.specs.Client.{kindOf, isActive, sameKind};
-ghost use Rattle.definitions.specs.Checks.{within, burstFits, termChecks, joinChecks, changeChecks, leaveChecks};
+ghost use Rattle.definitions.specs.Checks.{within, burstFits, termChecks, joinChecks, changeChecks};
 ghost use Rattle.order.specs.Order.{Sound, Ordered};
 ghost use Rattle.order.specs.Owner.{placesOf};
 ghost use Rattle.tables.specs.Tables.{Tables, tables, rateAt, ring};
@@ -39,7 +39,7 @@ ghost use Rattle.settings.specs.Writes.{Room, Ready, withTerms, retunedL
 ghost use Rattle.settings.specs.Writes.{Remarked, Recast, Quiet, Withdrawn, Withdraws, Empties};
 
 // A client of neither kind, with rate and burst 0, is nobody.
-const NOBODY: u32 = 0;
+const NO_KIND: u32 = 0;
 
 // A word with the mark of an id set or taken.
 fn set_mark(word: u64, id: u32, on: bool) -> u64
@@ -233,22 +233,6 @@ fn join_number(control: Control, id: u32, kind: u32, rate: u32, burst: u32) -> u
     terms_number(control.threshold, control.rates, kind, rate, burst)
 }
 
-// The number that a leave is refused with, and what a change asks first: 19, 4, 5.
-fn leave_number(control: Control, id: u32) -> u32
-    ensures { λ r. ⌜ ((t : Tables) → r ≡ refusal control t (λ s. leaveChecks s id)) ⌝ }
-{
-    if !control.opened {
-        return UNOPENED;
-    }
-    if IDS <= id {
-        return 4;
-    }
-    if !tables::active(control, id) {
-        return 5;
-    }
-    0
-}
-
 // The number that a change is refused with: 19, 4, 5, and by the terms, with the old rate taken off.
 fn change_number(
     control: Control,
@@ -259,10 +243,12 @@ fn change_number(
     burst: u32,
 ) -> u32
     requires { ⌜ (control .opened ≡ true → id < ids → rateAt (now terms) id ≤ control .rates) ⌝ }
-    ensures { λ r. ⌜ ((s h l k : List ℕ) → Valid control (tables (now (terms .entry)) s h l k)
-        → r ≡ refusal control (tables (now (terms .entry)) s h l k) (λ s. changeChecks s id kind rate burst)) ⌝ }
+    ensures { λ r. ⌜ ((stocks handles lengths links : List ℕ)
+        → Valid control (tables (now (terms .entry)) stocks handles lengths links)
+        → r ≡ refusal control (tables (now (terms .entry)) stocks handles lengths links)
+        (λ s. changeChecks s id kind rate burst)) ⌝ }
 {
-    let number = leave_number(control, id);
+    let number = tables::active_number(control, id);
     if number != 0 {
         return number;
     }
@@ -352,10 +338,10 @@ pub fn leave(
         (tables (now (terms .entry)) (now (stocks .entry)) (now (handles .entry)) (now (lengths .entry)) (now (links .entry))) r
         (tables (now (terms .exit)) (now (stocks .exit)) (now (handles .entry)) (now (lengths .entry)) (now (links .exit))) ⌝ }
 {
-    let number = leave_number(control, id);
+    let number = tables::active_number(control, id);
     if number != 0 {
         return tables::refused(control, number);
     }
     let bare = empty(control, stocks, links, id);
-    tables::accepted(place_client(bare, terms, id, NOBODY, 0, 0))
+    tables::accepted(place_client(bare, terms, id, NO_KIND, 0, 0))
 }

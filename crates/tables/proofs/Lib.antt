@@ -2,6 +2,7 @@
 pub mod Promises
 pub mod Checkings
 pub mod MarkedKinds
+pub mod ActiveChecks
 pub mod Fields
 pub mod QueueRing
 pub mod Touch

@@ -4,10 +4,14 @@ use definitions::IDS;
 use definitions::PLACES;
 use generator::Generator;
 ghost use mathlib.Core.Path.{_≡_};
+ghost use mathlib.Core.List.{[]};
 ghost use Prim.Native.Nat.{_<_, _^_};
 ghost use Rattle.definitions.specs.Client.{isActive};
+ghost use Rattle.definitions.specs.Checks.{activeChecks};
 ghost use Rattle.tables.specs.Controls.{withGenerator};
+ghost use Rattle.tables.specs.Tables.{Tables};
 ghost use Rattle.tables.specs.Meaning.{kindAt};
+ghost use Rattle.tables.specs.Numbers.{refusal};
 
 // What of the core is no table, and goes by value.
 pub struct Control {
@@ -101,4 +105,20 @@ pub fn active(control: Control, id: u32) -> bool
         return true;
     }
     marks::has(control.private, id)
+}
+
+// The number that a call for an active client is refused with, before anything else of it counts: 19, 4, 5.
+pub fn active_number(control: Control, id: u32) -> u32
+    ensures { λ r. ⌜ ((t : Tables) → r ≡ refusal control t (λ s. activeChecks s id [])) ⌝ }
+{
+    if !control.opened {
+        return UNOPENED;
+    }
+    if IDS <= id {
+        return 4;
+    }
+    if !active(control, id) {
+        return 5;
+    }
+    0
 }

@@ -1,4 +1,3 @@
-pub mod ActiveChecks
 pub mod LoadPromise
 pub mod ArrivedTables
 pub mod ArrivePromise

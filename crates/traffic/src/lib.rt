@@ -1,5 +1,4 @@
 // What comes in for a client: dummies for a private pool, and packets.
-use definitions::IDS;
 use definitions::LONGEST;
 use definitions::PLACES;
 use definitions::POOL_LIMIT;
@@ -16,41 +15,24 @@ use tables::POOL;
 use tables::STOCKS;
 use tables::STORE;
 use tables::TERMS;
-use tables::UNOPENED;
 ghost use mathlib.Core.Path.{_≡_};
-ghost use mathlib.Core.List.{List, []};
+ghost use mathlib.Core.List.{List};
 ghost use lib.ListN.{set};
 ghost use Prim.Native.Nat.{ℕ, _+_, _-_, _*_, _%_, _≤_, _<_};
 ghost use Rattle.definitions.specs.Event.{Load, Arrive};
 ghost use Rattle.definitions.specs.Sizes.{ids, places, shares};
-ghost use Rattle.definitions.specs.Checks.{activeChecks, loadChecks, arriveChecks};
-ghost use Rattle.tables.specs.Tables.{Tables, tables, levelColumn, countColumn, written, levelAt, headAt, countAt};
+ghost use Rattle.definitions.specs.Checks.{loadChecks, arriveChecks};
+ghost use Rattle.tables.specs.Tables.{tables, levelColumn, countColumn, written, levelAt, headAt, countAt};
 ghost use Rattle.tables.specs.Invariant.{Valid};
 ghost use Rattle.tables.specs.Numbers.{refusal};
 ghost use Rattle.tables.specs.Promise.{Meets};
 
-// The number that a call for an active client is refused with, before anything else of it counts: 19, 4, 5.
-fn active_number(control: Control, id: u32) -> u32
-    ensures { λ r. ⌜ ((t : Tables) → r ≡ refusal control t (λ s. activeChecks s id [])) ⌝ }
-{
-    if !control.opened {
-        return UNOPENED;
-    }
-    if IDS <= id {
-        return 4;
-    }
-    if !tables::active(control, id) {
-        return 5;
-    }
-    0
-}
-
 // The number that a load is refused with: 19, 4, 5, 11, 12.
 fn load_number(control: Control, stocks: &[u32; STOCKS], id: u32, dummies: u32) -> u32
-    ensures { λ r. ⌜ ((w h l k : List ℕ)
-        → r ≡ refusal control (tables w (now (stocks .entry)) h l k) (λ s. loadChecks s id dummies)) ⌝ }
+    ensures { λ r. ⌜ ((terms handles lengths links : List ℕ)
+        → r ≡ refusal control (tables terms (now (stocks .entry)) handles lengths links) (λ s. loadChecks s id dummies)) ⌝ }
 {
-    let number = active_number(control, id);
+    let number = tables::active_number(control, id);
     if number != 0 {
         return number;
     }
@@ -96,10 +78,11 @@ fn arrive_number(
     id: u32,
     packet: Packet,
 ) -> u32
-    ensures { λ r. ⌜ ((h l k : List ℕ)
-        → r ≡ refusal control (tables (now (terms .entry)) (now (stocks .entry)) h l k) (λ s. arriveChecks s id packet)) ⌝ }
+    ensures { λ r. ⌜ ((handles lengths links : List ℕ)
+        → r ≡ refusal control (tables (now (terms .entry)) (now (stocks .entry)) handles lengths links)
+        (λ s. arriveChecks s id packet)) ⌝ }
 {
-    let number = active_number(control, id);
+    let number = tables::active_number(control, id);
     if number != 0 {
         return number;
     }

@@ -2,8 +2,8 @@
 -- kind stays, and emptied and placed anew where it differs. Assumes nothing.
 use borrow.Author.Needs.{needs}
 use mathlib.Core.Path.{sym, _∙_}
-use Rattle.settings.proofs.Changing.{change-others, change-refused, change-active, change-room, change-ready}
-use Rattle.settings.proofs.Changing.{change-room-bare, change-retuned, change-placed}
+use Rattle.settings.proofs.ChangePromise.{change-others, change-refused, change-active, change-room, change-ready}
+use Rattle.settings.proofs.ChangePromise.{change-room-bare, change-retuned, change-placed}
 use Rattle.settings.proofs.change.Statement.{statement}
 use Rattle.settings.proofs.change.Tie as tie
 

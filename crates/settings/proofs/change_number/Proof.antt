@@ -1,25 +1,40 @@
--- `settings::change_number` meets its contract: what a leave asks comes first, and then the terms. Assumes nothing.
+-- `settings::change_number` meets its contract: what is asked of every active client comes first, and then the terms, held
+-- against what the others have. Assumes nothing.
 use borrow.Author.Needs.{needs}
 use native.Mathlib.Omega.{arith}
-use mathlib.Core.Path.{sym, _∙_}
-use mathlib.Core.List.{[]}
+use Prim.Native.Nat.{ℕ, _<_}
+use mathlib.Core.Path.{_≡_, sym, ap, _∙_}
+use mathlib.Core.Bool.{true}
 use Rattle.definitions.specs.Sizes.{ids}
-use Rattle.tables.specs.Tables.{Tables, tables, field}
-use Rattle.settings.proofs.Asking.{leave-opened, leave-below, change-first, change-terms}
+use Rattle.definitions.specs.Checks.{termChecks, changeChecks}
+use Rattle.tables.specs.Tables.{tables, field}
+use Rattle.tables.specs.Meaning.{stateOf}
+use Rattle.tables.specs.Numbers.{firstFailed}
+use Rattle.tables.proofs.ActiveChecks.{active-failed, active-opened, active-below, active-rest}
+use Rattle.settings.proofs.HeldRates.{others-held}
 use Rattle.settings.proofs.change_number.Statement.{statement}
 use Rattle.settings.proofs.change_number.Tie as tie
 
--- any tables with these terms: the other tables are not asked
-some : tie.Start → Tables
-some start = tables (start .args .terms .now) [] [] [] []
-
-leave-number-requires : tie.Need-leave-number-requires
-leave-number-requires c κs = search needs
+active-number-requires : tie.Need-active-number-requires
+active-number-requires c κs = search needs
 
 returns : tie.Need-returns
-returns c s h l k valid =
+unfolding changeChecks
+returns c stocks handles lengths links valid =
     let a = c .before .before .args in
-    change-first (a .control) _ (a .id) (a .kind) (a .rate) (a .burst) _ (c .before .leave-number .ensures _) (c .if1 .taken)
+    active-failed (a .control) (a .id) _ (c .before .active-number .ensures)
+    (tables (a .terms .now) stocks handles lengths links) _ (c .if1 .taken)
+
+-- once the id is known to be active
+runs : (c : tie.Else1) → c .before .before .args .control .opened ≡ true
+runs c =
+    let a = c .before .before .args in
+    active-opened (a .control) (a .id) _ (c .before .active-number .ensures) (c .if1 .left)
+
+below : (c : tie.Else1) → c .before .before .args .id < ids
+below c =
+    let a = c .before .before .args in
+    active-below (a .control) (a .id) _ (c .before .active-number .ensures) (c .if1 .left)
 
 add-others : tie.Need-add-others
 add-others c = search needs
@@ -32,41 +47,33 @@ mul-others c = search needs
 
 element-copy-out-others : tie.Need-element-copy-out-others
 unfolding ids
-element-copy-out-others c =
-    let start = c .before .before in
-    let none = sym (c .before .leave-number .ensures (some start)) ∙ c .if1 .left in
-    omega (arith, leave-below (start .args .control) (some start) (start .args .id) none)
+element-copy-out-others c = omega (arith, below c)
 
 sub-others : tie.Need-sub-others
 unfolding ids field
 sub-others c =
     let e = c .before .before in
-    let start = e .before .before in
-    let none = sym (e .before .leave-number .ensures (some start)) ∙ e .if1 .left in
-    omega (
-      arith,
-      start .pre (leave-opened (start .args .control) (some start) (start .args .id) none)
-          (leave-below (start .args .control) (some start) (start .args .id) none),
-    )
+    omega (arith, e .before .before .pre (runs e) (below e))
 
 terms-number-requires : tie.Need-terms-number-requires
 terms-number-requires c κs = search needs
 
 returns-2 : tie.Need-returns-2
-unfolding ids field
-returns-2 c s h l k valid =
+unfolding ids field changeChecks stateOf
+returns-2 c stocks handles lengths links valid =
     let e = c .before .before .before in
     let a = e .before .before .args in
-    let t = tables (a .terms .now) s h l k in
-    let none = sym (e .before .leave-number .ensures t) ∙ e .if1 .left in
+    let t = tables (a .terms .now) stocks handles lengths links in
     c .terms-number .ensures
-    ∙ change-terms (a .control) t (a .id) (a .kind) (a .rate) (a .burst) (valid (leave-opened (a .control) t (a .id) none)) none
+    ∙ ap (λ (others : ℕ). firstFailed (termChecks (a .control .threshold) others (a .kind) (a .rate) (a .burst)))
+    (others-held (a .control) t (valid (runs e) .shape) (a .id) (below e))
+    ∙ sym (active-rest (a .control) (a .id) _ (e .before .active-number .ensures) (e .if1 .left) t _)
 
 pub change-number-spec : {M : Type 1} → statement M
 change-number-spec =
     tie.close
     (tie.spec
-    leave-number-requires
+    active-number-requires
     returns
     add-others
     cast-others

@@ -2,7 +2,7 @@
 -- Assumes nothing.
 use borrow.Author.Needs.{needs}
 use mathlib.Core.Path.{sym, _∙_}
-use Rattle.settings.proofs.Joining.{join-refused, join-below, join-room, join-accepted}
+use Rattle.settings.proofs.JoinPromise.{join-refused, join-below, join-room, join-accepted}
 use Rattle.settings.proofs.join.Statement.{statement}
 use Rattle.settings.proofs.join.Tie as tie
 

@@ -2,36 +2,40 @@
 -- nobody in its place. Assumes nothing.
 use borrow.Author.Needs.{needs}
 use mathlib.Core.Path.{sym, _∙_}
-use Rattle.settings.proofs.Leaving.{leave-refused, leave-ready, leave-room, leave-accepted}
+use Rattle.definitions.specs.Checks.{leaveChecks}
+use Rattle.settings.proofs.LeavePromise.{leave-refused, leave-ready, leave-room, leave-accepted}
 use Rattle.settings.proofs.leave.Statement.{statement}
 use Rattle.settings.proofs.leave.Tie as tie
 
-leave-number-requires : tie.Need-leave-number-requires
-leave-number-requires c κs = search needs
+active-number-requires : tie.Need-active-number-requires
+active-number-requires c κs = search needs
 
 refused-requires : tie.Need-refused-requires
 refused-requires c κs = search needs
 
 returns : tie.Need-returns
+unfolding leaveChecks
 returns c =
     let start = c .before .before .before in
     let a = start .args in
     leave-refused (a .control) _ (start .pre) (a .id) (c .refused .result) _ (c .refused .ensures)
-    (c .before .before .leave-number .ensures _) (c .before .if1 .taken)
+    (c .before .before .active-number .ensures _) (c .before .if1 .taken)
 
 empty-requires : tie.Need-empty-requires
+unfolding leaveChecks
 empty-requires c κs =
     let e = c .before .before in
     let start = e .before .before in
-    let none = sym (e .before .leave-number .ensures _) ∙ e .if1 .left in
+    let none = sym (e .before .active-number .ensures _) ∙ e .if1 .left in
     leave-ready (start .args .control) _ (start .pre) (start .args .id) none
 
 place-client-requires : tie.Need-place-client-requires
+unfolding leaveChecks
 place-client-requires c κs =
     let q = c .before .empty in
     let e = c .before .before .before .before in
     let start = e .before .before in
-    let none = sym (e .before .leave-number .ensures _) ∙ e .if1 .left in
+    let none = sym (e .before .active-number .ensures _) ∙ e .if1 .left in
     leave-room (start .args .control) _ (start .pre) (start .args .id) none
     (q .result) _ _ (q .ensures)
 
@@ -39,13 +43,14 @@ accepted-requires : tie.Need-accepted-requires
 accepted-requires c κs = search needs
 
 returns-2 : tie.Need-returns-2
+unfolding leaveChecks
 returns-2 c =
     let p = c .before .place-client in
     let q = c .before .before .before .empty in
     let e = c .before .before .before .before .before .before in
     let start = e .before .before in
     let a = start .args in
-    let none = sym (e .before .leave-number .ensures _) ∙ e .if1 .left in
+    let none = sym (e .before .active-number .ensures _) ∙ e .if1 .left in
     rw (p .ensures .1)
     (leave-accepted (a .control) _ (start .pre) (a .id) none
     (q .result) _ _ (q .ensures) (p .result) (p .ensures .0) (c .accepted .result) (c .accepted .ensures))
@@ -53,4 +58,4 @@ returns-2 c =
 pub leave-spec : {M : Type 1} → statement M
 leave-spec =
     tie.close
-    (tie.spec leave-number-requires refused-requires returns empty-requires place-client-requires accepted-requires returns-2)
+    (tie.spec active-number-requires refused-requires returns empty-requires place-client-requires accepted-requires returns-2)

@@ -16,7 +16,7 @@ use Rattle.tables.specs.Meaning.{stateOf, clientsOf, clientAt, sideOf, stocksOf
 use Rattle.tables.specs.Numbers.{firstFailed, refusal}
 use Rattle.tables.proofs.MarkedKinds.{kind-indifferent}
 use Rattle.tables.proofs.QueueRing.{queue-length}
-use Rattle.traffic.proofs.ActiveChecks.{active-failed, active-below, active-rest}
+use Rattle.tables.proofs.ActiveChecks.{active-failed, active-below, active-rest}
 use Rattle.traffic.proofs.arrive_number.Statement.{statement}
 use Rattle.traffic.proofs.arrive_number.Tie as tie
 
@@ -25,9 +25,9 @@ active-number-requires c κs = search needs
 
 returns : tie.Need-returns
 unfolding arriveChecks
-returns c h l k =
+returns c handles lengths links =
     let a = c .before .before .args in
-    active-failed (a .control) (a .id) _ (c .before .active-number .ensures) (tables (a .terms .now) (a .stocks .now) h l k) _
+    active-failed (a .control) (a .id) _ (c .before .active-number .ensures) (tables (a .terms .now) (a .stocks .now) handles lengths links) _
     (c .if1 .taken)
 
 -- the numbers behind 19, 4 and 5, by the packet's length, the id's count, whether it is indifferent, and its level
@@ -47,24 +47,24 @@ below c =
     let a = c .before .before .args in
     active-below (a .control) (a .id) _ (c .before .active-number .ensures) (c .if1 .left)
 
-rest : (c : tie.Else1) (h l k : List ℕ) →
+rest : (c : tie.Else1) (handles lengths links : List ℕ) →
     let a = c .before .before .args in
-    refusal (a .control) (tables (a .terms .now) (a .stocks .now) h l k) (λ s. arriveChecks s (a .id) (a .packet))
+    refusal (a .control) (tables (a .terms .now) (a .stocks .now) handles lengths links) (λ s. arriveChecks s (a .id) (a .packet))
     ≡ byLength (a .packet .length) (countAt (a .stocks .now) (a .id)) (marked (a .control .indifferent) (a .id))
     (levelAt (a .terms .now) (a .id))
 unfolding arriveChecks firstFailed within stateOf clientsOf clientAt sideOf stocksOf stockAt
-rest c h l k =
+rest c handles lengths links =
     let a = c .before .before .args in
-    let t = tables (a .terms .now) (a .stocks .now) h l k in
+    let t = tables (a .terms .now) (a .stocks .now) handles lengths links in
     active-rest (a .control) (a .id) _ (c .before .active-number .ensures) (c .if1 .left) t _
     ∙ rw (lt-ltb (a .id) ids (below c), kind-indifferent (a .control) (a .id), queue-length t (a .id))
 
 returns-2 : tie.Need-returns-2
 unfolding shortest
-returns-2 c h l k =
+returns-2 c handles lengths links =
     let a = c .before .before .before .before .args in
     let short : a .packet .length < shortest = omega (arith, c .if2 .taken) in
-    sym (rest (c .before .before) h l k ∙ rw (lt-leb _ _ short))
+    sym (rest (c .before .before) handles lengths links ∙ rw (lt-leb _ _ short))
 
 long-enough : (c : tie.Else2) → shortest ≤ c .before .before .before .before .args .packet .length
 unfolding shortest
@@ -72,21 +72,21 @@ long-enough c = omega (arith, c .if2 .left)
 
 returns-3 : tie.Need-returns-3
 unfolding longest
-returns-3 c h l k =
+returns-3 c handles lengths links =
     let a = c .before .before .before .before .before .before .args in
     let long : longest < a .packet .length = omega (arith, c .if3 .taken) in
-    sym (rest (c .before .before .before .before) h l k ∙ rw (le-leb _ _ (long-enough (c .before .before)), lt-leb _ _ long))
+    sym (rest (c .before .before .before .before) handles lengths links ∙ rw (le-leb _ _ (long-enough (c .before .before)), lt-leb _ _ long))
 
 -- and the length to fit
-fits : (c : tie.Else3) (h l k : List ℕ) →
+fits : (c : tie.Else3) (handles lengths links : List ℕ) →
     let a = c .before .before .before .before .before .before .args in
-    refusal (a .control) (tables (a .terms .now) (a .stocks .now) h l k) (λ s. arriveChecks s (a .id) (a .packet))
+    refusal (a .control) (tables (a .terms .now) (a .stocks .now) handles lengths links) (λ s. arriveChecks s (a .id) (a .packet))
     ≡ byCount (countAt (a .stocks .now) (a .id)) (marked (a .control .indifferent) (a .id)) (levelAt (a .terms .now) (a .id))
 unfolding longest
-fits c h l k =
+fits c handles lengths links =
     let a = c .before .before .before .before .before .before .args in
     let short-enough : a .packet .length ≤ longest = omega (arith, c .if3 .left) in
-    rest (c .before .before .before .before) h l k
+    rest (c .before .before .before .before) handles lengths links
     ∙ rw (le-leb _ _ (long-enough (c .before .before)), le-leb _ _ short-enough)
 
 add-if4 : tie.Need-add-if4
@@ -105,27 +105,27 @@ element-copy-out-if4 c = omega (arith, below (c .before .before .before .before)
 
 returns-4 : tie.Need-returns-4
 unfolding places field ids
-returns-4 c h l k =
+returns-4 c handles lengths links =
     let a = c .before .before .before .before .before .before .before .before .args in
     let full : places ≤ countAt (a .stocks .now) (a .id) = omega (arith, c .if4 .taken) in
-    sym (fits (c .before .before) h l k ∙ rw (le-ltb _ _ full))
+    sym (fits (c .before .before) handles lengths links ∙ rw (le-ltb _ _ full))
 
 has-requires : tie.Need-has-requires
 has-requires c κs = search needs
 
 -- and a place to be left
-room : (c : tie.After-has) (h l k : List ℕ) →
+room : (c : tie.After-has) (handles lengths links : List ℕ) →
     let a = c .before .before .before .before .before .before .before .before .before .args in
-    refusal (a .control) (tables (a .terms .now) (a .stocks .now) h l k) (λ s. arriveChecks s (a .id) (a .packet))
+    refusal (a .control) (tables (a .terms .now) (a .stocks .now) handles lengths links) (λ s. arriveChecks s (a .id) (a .packet))
     ≡ byLevel (c .has .result) (levelAt (a .terms .now) (a .id))
 unfolding places field ids
-room c h l k =
+room c handles lengths links =
     let a = c .before .before .before .before .before .before .before .before .before .args in
     let left : countAt (a .stocks .now) (a .id) < places = omega (arith, c .before .if4 .left) in
-    fits (c .before .before .before) h l k ∙ rw (lt-ltb _ _ left, sym (c .has .ensures))
+    fits (c .before .before .before) handles lengths links ∙ rw (lt-ltb _ _ left, sym (c .has .ensures))
 
 returns-5 : tie.Need-returns-5
-returns-5 c h l k = sym (room (c .before) h l k ∙ rw (c .if5 .taken))
+returns-5 c handles lengths links = sym (room (c .before) handles lengths links ∙ rw (c .if5 .taken))
 
 add-if6 : tie.Need-add-if6
 unfolding ids
@@ -143,19 +143,19 @@ element-copy-out-if6 c = omega (arith, below (c .before .before .before .before 
 
 returns-6 : tie.Need-returns-6
 unfolding shares field ids
-returns-6 c h l k =
+returns-6 c handles lengths links =
     let has = c .before .before .before in
     let a = has .before .before .before .before .before .before .before .before .before .args in
     let poor : levelAt (a .terms .now) (a .id) < shares = omega (arith, c .if6 .taken) in
-    sym (room has h l k ∙ rw (c .before .before .if5 .left, lt-leb _ _ poor))
+    sym (room has handles lengths links ∙ rw (c .before .before .if5 .left, lt-leb _ _ poor))
 
 returns-7 : tie.Need-returns-7
 unfolding shares field ids
-returns-7 c h l k =
+returns-7 c handles lengths links =
     let has = c .before .before .before in
     let a = has .before .before .before .before .before .before .before .before .before .args in
     let pays : shares ≤ levelAt (a .terms .now) (a .id) = omega (arith, c .if6 .left) in
-    sym (room has h l k ∙ rw (c .before .before .if5 .left, le-leb _ _ pays))
+    sym (room has handles lengths links ∙ rw (c .before .before .if5 .left, le-leb _ _ pays))
 
 pub arrive-number-spec : {M : Type 1} → statement M
 arrive-number-spec =

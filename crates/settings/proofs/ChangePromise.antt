@@ -26,7 +26,7 @@ use Rattle.tables.proofs.Promises.{refused-with, opened, all-passed, sound-befo
 use Rattle.tables.proofs.Checkings.{changes}
 use Rattle.tables.proofs.Touch.{client-own}
 use Rattle.settings.specs.Writes.{Room, Ready, ratesAfter, Recast, Emptied, Empties}
-use Rattle.settings.proofs.Rates.{limits-own, rate-held}
+use Rattle.settings.proofs.HeldRates.{limits-own, rate-held}
 use Rattle.settings.proofs.Bounds.{Fitting, terms-fit, fitting-holds, room, ready}
 use Rattle.settings.proofs.Placing.{placedTables, Placement, placed-shape, placed-opened, placed-state}
 use Rattle.settings.proofs.Retuning.{retunedControl, retunedTables, retuned-shape, retuned-state}

@@ -1,16 +1,17 @@
--- `traffic::active_number` meets its contract: each return has the number of the check whose test led to it.
+-- `tables::active_number` meets its contract: each return has the number of the check whose test led to it.
 -- Assumes nothing.
 use borrow.Author.Needs.{needs}
 use borrow.Author.Tests.{lt-ltb, le-ltb, not-true, not-false}
+use native.Mathlib.Omega.{arith}
 use mathlib.Core.Path.{_≡_, sym, _∙_}
 use mathlib.Core.Bool.{true, false}
 use Rattle.definitions.specs.Sizes.{ids}
 use Rattle.definitions.specs.Client.{isActive}
 use Rattle.definitions.specs.Checks.{activeChecks}
 use Rattle.tables.specs.Meaning.{kindAt, stateOf, clientsOf, clientAt}
 use Rattle.tables.specs.Numbers.{firstFailed, refusal}
-use Rattle.traffic.proofs.active_number.Statement.{statement}
-use Rattle.traffic.proofs.active_number.Tie as tie
+use Rattle.tables.proofs.active_number.Statement.{statement}
+use Rattle.tables.proofs.active_number.Tie as tie
 
 returns : tie.Need-returns
 unfolding refusal
@@ -20,7 +21,7 @@ returns-2 : tie.Need-returns-2
 unfolding refusal firstFailed activeChecks ids
 returns-2 c t =
     let a = c .before .before .before .args in
-    simp (not-false (a .control .opened) (c .before .if1 .left), le-ltb (a .id) 64 (c .if2 .taken))
+    simp (not-false (a .control .opened) (c .before .if1 .left), le-ltb (a .id) 64 (omega (arith, c .if2 .taken)))
 
 active-requires : tie.Need-active-requires
 active-requires c κs = search needs

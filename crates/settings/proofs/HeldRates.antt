@@ -1,7 +1,7 @@
 -- The rates held together when an id's rate is traded for another: what an id holds of them is its rate, and an absent id's
 -- is 0 within the limits. Assumes nothing.
-use Prim.Native.Nat.{ℕ, _≤_, _<_}
-use mathlib.Core.Path.{_≡_, refl, sym, ap, subst, _∙_}
+use Prim.Native.Nat.{ℕ, _-_, _≤_, _<_}
+use mathlib.Core.Path.{_≡_, refl, sym, ap, ap₂, subst, _∙_}
 use mathlib.Core.Bool.{cond}
 use native.Mathlib.Omega.{arith}
 use Rattle.definitions.specs.Sizes.{ids}
@@ -31,6 +31,13 @@ pub limits-own : (c : Control) (t : Tables) → SoundCore c t → (id : ℕ) →
 unfolding stateOf
 limits-own c t sound id below =
     subst ClientLimits (client-own c t (sound .shape) id below) (sound .limits .clientLimits id)
+
+-- what all others hold of them
+pub others-held : (c : Control) (t : Tables) → Shape c t → (id : ℕ) → id < ids
+    → c .rates - rateAt (t .terms) id ≡ rates (clientsOf c t) - clientsOf c t id .rate
+unfolding clientAt
+others-held c t shape id below =
+    ap₂ (λ (m n : ℕ). m - n) (shape .ratesHeld) (ap (λ (x : Client). x .rate) (sym (client-own c t shape id below)))
 
 module _ (c : Control) (t : Tables) (shape : Shape c t) (id : ℕ) (below : id < ids)
     (limits : ClientLimits (clientAt c t id)) where

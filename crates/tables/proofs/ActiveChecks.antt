@@ -49,6 +49,9 @@ module _ (c : Control) (id n : ℕ) (number : (t : Tables) → n ≡ refusal c t
         go true true false e = absurd (omega arith)
         go true false a e = absurd (omega arith)
         go false b a e = absurd (omega arith)
+
+    pub active-opened : c .opened ≡ true
+    active-opened = tests-passed (tables [] [] [] [] []) .0
 
     pub active-below : id < ids
     active-below = ltb-true id ids (tests-passed (tables [] [] [] [] []) .1)
