@@ -1,11 +1,11 @@
 -- There are pieces: any text is one piece, given a buffer as long as its printout; and the example, computed. Assumes nothing.
-use Prim.Native.Nat.{ℕ, _≤_, _<_}
+use Prim.Native.Nat.{ℕ, _+_, _≤_, _<_}
 use mathlib.Core.Path.{_≡_, refl, sym, ap, subst, _∙_}
 use mathlib.Core.Bool.{false}
 use mathlib.Core.List.{List, [], _++_, append-nil}
 use native.Mathlib.Omega.{arith}
-use lib.ListN.{length, take, replicate}
-use lib.Seq.{sets, take-all}
+use lib.ListN.{length, take, replicate, length-append}
+use lib.Seq.{sets, take-append-seam}
 use Rattle.definitions.specs.declared.Answer.the-variants.{Refused}
 use Rattle.definitions.specs.State.{Core, unopened}
 use Rattle.definitions.proofs.Laws.Tests.{lt-cases, true-false}
@@ -35,32 +35,45 @@ new t = (coreOf-shut shut t refl, λ e. true-false e refl)
 abbrev Ended : List ℕ → Type 0
 Ended text = (bytes : List ℕ) × (c : Control) × (t : Tables) × Written text bytes (length text) c t
 
--- a text that is read, in one buffer for all that it prints
+-- a text that is read, in one buffer with room behind all that it prints
 read : (text : List ℕ) → length text ≤ textLimit → Ended text
 read text short = (
-  take (length out) out,
+  take (length all) out,
   shut,
   emptyTables,
-  piece (started (start-read text shut new (replicate 64 0) short) (omega arith)) all,
+  piece (started (start-read text shut new (replicate 64 0) short) (omega arith)) whole,
 )
   where
-    out : List ℕ
-    out = ahead (coreOf shut emptyTables) text 0
+    all : List ℕ
+    all = ahead (coreOf shut emptyTables) text 0
 
-    all : Piece text 0 shut emptyTables out (progress shut (length text) (length out)) emptyTables
-    all = record {
+    out : List ℕ
+    out = all ++ replicate 64 0
+
+    room : length out ≡ length all + 64
+    room = length-append all (replicate 64 0)
+
+    whole : Piece text 0 shut emptyTables out (progress shut (length text) (length all)) emptyTables
+    whole = record {
       walked = record {
         printed =
-            ap (λ (l : List ℕ). take (length out) out ++ l)
+            ap (λ (l : List ℕ). take (length all) out ++ l)
             (ahead-none (coreOf shut emptyTables) text (length text) (omega arith))
-            ∙ append-nil (take (length out) out)
-            ∙ take-all (length out) out (omega arith);
-        fits = omega arith;
+            ∙ append-nil (take (length all) out)
+            ∙ take-append-seam all (replicate 64 0);
+        fits = omega (arith, room);
         within = λ here. omega arith;
         valid = new emptyTables .1;
       };
       full = λ more. absurd (omega arith);
-      onward = λ inside room. inside;
+      onward = λ inside more. inside;
+      bare = λ little. absurd (omega (arith, room));
+      ended = λ past. (
+        (let none = ap length (ahead-none (coreOf shut emptyTables) text 0 past) in
+            let empty : length text ≡ 0 = omega arith in
+            λ i. progress shut (empty i) (none i)),
+        refl,
+      );
     }
 
 -- a text that is too long, whose line is written at the start
@@ -85,6 +98,8 @@ bare = record {
   walked = walked-none twoLines 0 shut emptyTables [] (new emptyTables .1);
   full = λ more. omega arith;
   onward = λ inside room. absurd (omega arith);
+  bare = λ little. (refl, refl);
+  ended = λ past. (refl, refl);
 }
 
 line : Piece twoLines 0 shut emptyTables (buffer (bytes "(refused 19)\n")) (progress shut 7 13) emptyTables
@@ -98,6 +113,8 @@ line = record {
   };
   full = λ more. omega arith;
   onward = λ inside room. omega arith;
+  bare = λ little. absurd (omega arith);
+  ended = λ past. absurd (omega arith);
 }
 
 rest : Piece twoLines 7 shut emptyTables (buffer (bytes "(refused 16)\n")) (progress shut 15 13) emptyTables
@@ -111,6 +128,8 @@ rest = record {
   };
   full = λ more. omega arith;
   onward = λ inside room. omega arith;
+  bare = λ little. absurd (omega arith);
+  ended = λ past. absurd (omega arith);
 }
 
 three : ThreePieces shut emptyTables

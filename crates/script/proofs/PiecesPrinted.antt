@@ -18,7 +18,7 @@ use Rattle.tables.specs.Tables.{Tables}
 use Rattle.tables.specs.Meaning.{coreOf}
 use Rattle.tables.specs.Invariant.{Valid}
 use Rattle.script.specs.declared.Progress.{Progress}
-use Rattle.script.specs.Pieces.{ahead, Walked, Piece, Start, Written, started, piece, PiecesPrinted}
+use Rattle.script.specs.Pieces.{ahead, Walked, Unmoved, Piece, Start, Written, started, piece, PiecesPrinted}
 use Rattle.script.proofs.LinePrinted.{ahead-none}
 
 -- ---- lines behind one another
@@ -45,12 +45,16 @@ pub piece-done : {text : List ℕ} {at : ℕ} {c : Control} {t : Tables} {out : 
     → Walked text at c t [] out r u
     → (r .next < length text → length out < r .written + lineRoom)
     → (r .next ≤ at → r .written ≡ 0)
+    → (length out < lineRoom → Unmoved at c t r u)
+    → (length text ≤ at → Unmoved at c t r u)
     → Piece text at c t out r u
-piece-done {text} {at} {out = out} {r} w full still = record {
+piece-done {text} {at} {out = out} {r} w full still bare ended = record {
   walked = w;
   full = full;
   onward = λ inside room.
       lt-cases at (r .next) (λ forth. forth) (λ back. absurd (omega (arith, full (omega arith), still back)));
+  bare = bare;
+  ended = ended;
 }
 
 -- ---- before the first piece
@@ -62,8 +66,7 @@ module _ (text : List ℕ) (c : Control) (new : (t : Tables) → (coreOf c t ≡
     printed = λ room. rw (printout, le-ltb textLimit (length text) short) refl;
     bare = λ little. refl;
     fits = omega arith;
-    within = omega arith;
-    read = λ more. short;
+    next = rw (le-ltb textLimit (length text) short) refl;
     core = new;
   }
 
@@ -79,8 +82,7 @@ module _ (text : List ℕ) (c : Control) (new : (t : Tables) → (coreOf c t ≡
         ∙ rw (printout, lt-ltb textLimit (length text) over) refl;
     bare = λ little. p .untouched (omega arith) .0;
     fits = fits;
-    within = omega arith;
-    read = λ more. absurd (omega arith);
+    next = rw (lt-ltb textLimit (length text) over) refl;
     core = new;
   }
     where
@@ -88,6 +90,14 @@ module _ (text : List ℕ) (c : Control) (new : (t : Tables) → (coreOf c t ≡
       fits =
           lt-cases (length out) lineRoom (λ little. omega (arith, p .untouched (omega arith) .0))
           (λ room. omega (arith, p .written (omega arith) .room))
+
+-- the place before the first piece is in the text, and at its end where it is too long
+pub start-place : {text out : List ℕ} {r : Progress} → Start text out r
+    → (r .next ≤ length text) × (r .next < length text → length text ≤ textLimit)
+start-place {text} {r = r} s =
+    lt-cases textLimit (length text)
+    (λ over. let end = rw (lt-ltb textLimit (length text) over) at (s .next) in (omega (arith, end), λ more. absurd (omega (arith, end))))
+    (λ short. let first = rw (le-ltb textLimit (length text) short) at (s .next) in (omega (arith, first), λ more. short))
 
 -- ---- the theorem
 

@@ -5,6 +5,8 @@
 use Prim.Native.Nat.{ℕ, _+_, _≤_, _<_}
 use mathlib.Core.Path.{_≡_}
 use mathlib.Core.List.{List, [], _++_}
+use mathlib.Core.Bool.{cond}
+use lib.Dec.{ltb}
 use lib.ListN.{length, take, drop}
 use Rattle.definitions.specs.State.{Core, unopened}
 use Rattle.grammar.specs.Bytes.{textLimit}
@@ -29,11 +31,18 @@ pub record Walked (text : List ℕ) (at : ℕ) (c : Control) (t : Tables) (befor
     pub within : at ≤ length text → r .next ≤ length text
     pub valid : Valid (r .control) u
 
--- A piece: the lines from a place on, until the text ends or the room for a line does; one at least, where both are there.
+-- nothing was done
+abbrev pub Unmoved : ℕ → Control → Tables → Progress → Tables → Type 0
+Unmoved at c t r u = (r ≡ record { control = c; next = at; written = 0 }) × (u ≡ t)
+
+-- A piece: the lines from a place on, until the text ends or the room for a line does; one at least, where both are there, and
+-- nothing is done where one is not.
 pub record Piece (text : List ℕ) (at : ℕ) (c : Control) (t : Tables) (out : List ℕ) (r : Progress) (u : Tables) : Type 0 where
   pub walked : Walked text at c t [] out r u
   pub full : r .next < length text → length out < r .written + lineRoom
   pub onward : at < length text → lineRoom ≤ length out → at < r .next
+  pub bare : length out < lineRoom → Unmoved at c t r u
+  pub ended : length text ≤ at → Unmoved at c t r u
 
 -- Before the first piece: an unopened core at the first byte of the text. Of a "whole text over 60,000 bytes" its only line is
 -- written, for which there has to be room, and the place is behind the text.
@@ -41,8 +50,7 @@ pub record Start (text out : List ℕ) (r : Progress) : Type 0 where
   pub printed : lineRoom ≤ length out → take (r .written) out ++ ahead unopened text (r .next) ≡ printout text
   pub bare : length out < lineRoom → r .written ≡ 0
   pub fits : r .written ≤ length out
-  pub within : r .next ≤ length text
-  pub read : r .next < length text → length text ≤ textLimit
+  pub next : r .next ≡ cond (ltb textLimit (length text)) (length text) 0
   pub core : (t : Tables) → (coreOf (r .control) t ≡ unopened) × Valid (r .control) t
 
 -- Pieces one after the other, each in a buffer of its own: the bytes that were written, and the place, control and tables
