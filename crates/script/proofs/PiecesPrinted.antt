@@ -1,16 +1,17 @@
 -- The pieces of a text are its printout: each equation puts what one piece wrote before what is ahead, so they chain, whatever
 -- the buffers' lengths. Assumes nothing.
-use Prim.Native.Nat.{ℕ, _+_, _≤_, _<_}
+use Prim.Native.Nat.{ℕ, _+_, _-_, _≤_, _<_}
 use mathlib.Core.Path.{_≡_, refl, sym, ap, _∙_}
 use mathlib.Core.List.{List, [], _++_, append-assoc, append-nil}
 use native.Mathlib.Omega.{arith}
 use lib.ListN.{length, take}
+use lib.Seq.{take-all}
 use borrow.Author.Tests.{lt-ltb, le-ltb}
 use Rattle.definitions.specs.declared.Answer.the-variants.{Refused}
 use Rattle.definitions.specs.State.{Core, unopened}
 use Rattle.definitions.proofs.Laws.Tests.{lt-cases}
 use Rattle.grammar.specs.Bytes.{textLimit}
-use Rattle.grammar.specs.Printout.{printed, printout}
+use Rattle.grammar.specs.Printout.{printed, coreFrom, printout}
 use Rattle.printer.specs.Printed.{lineRoom, Printed}
 use Rattle.printer.proofs.Appending.{appended-front}
 use Rattle.tables.specs.declared.Control.{Control}
@@ -18,14 +19,21 @@ use Rattle.tables.specs.Tables.{Tables}
 use Rattle.tables.specs.Meaning.{coreOf}
 use Rattle.tables.specs.Invariant.{Valid}
 use Rattle.script.specs.declared.Progress.{Progress}
-use Rattle.script.specs.Pieces.{ahead, Walked, Unmoved, Piece, Start, Written, started, piece, PiecesPrinted}
-use Rattle.script.proofs.LinePrinted.{ahead-none}
+use Rattle.script.specs.Pieces.{ahead, coreBehind, Walked, Unmoved, Piece, Start, Written, started, piece, PiecesPrinted}
+use Rattle.script.proofs.LinePrinted.{ahead-none, core-here}
 
 -- ---- lines behind one another
 
 pub walked-none : (text : List ℕ) (at : ℕ) (c : Control) (t : Tables) (out : List ℕ) → Valid c t
     → Walked text at c t [] out (record { control = c; next = at; written = 0 }) t
-walked-none text at c t out valid = record { printed = refl; fits = omega arith; within = λ here. here; valid = valid }
+walked-none text at c t out valid = record {
+  printed = refl;
+  fits = omega arith;
+  core = λ upto past. refl;
+  forth = omega arith;
+  within = λ here. here;
+  valid = valid;
+}
 
 pub walked-more : {text : List ℕ} {at : ℕ} {c : Control} {t : Tables} {before out : List ℕ} {r : Progress} {u : Tables}
     {last : List ℕ}
@@ -36,6 +44,8 @@ pub walked-more : {text : List ℕ} {at : ℕ} {c : Control} {t : Tables} {befor
 walked-more w more = record {
   printed = more .printed ∙ w .printed;
   fits = more .fits;
+  core = λ upto past. more .core upto past ∙ w .core upto (omega (arith, more .forth, past));
+  forth = omega (arith, w .forth, more .forth);
   within = λ here. more .within (w .within here);
   valid = more .valid;
 }
@@ -110,10 +120,43 @@ sofar text _ _ _ u (piece {bytes} {at} {c} {t} {out = out} {r} w p) =
     ∙ ap (λ (l : List ℕ). bytes ++ l) (p .walked .printed)
     ∙ sofar text bytes at c t w
 
+-- the core goes with the text up to any later place as the unopened core does from the first byte
+alike : (text bytes : List ℕ) (at : ℕ) (c : Control) (t : Tables) → Written text bytes at c t → length text ≤ textLimit
+    → (upto : ℕ) → at ≤ upto
+    → coreBehind (coreOf c t) text at upto ≡ coreBehind unopened text 0 upto
+alike text _ _ _ t (started {out} {r} s room) short upto past =
+    let first : r .next ≡ 0 = rw (le-ltb textLimit (length text) short) at (s .next) in
+    λ i. coreBehind (s .core t .0 i) text (first i) upto
+alike text _ _ _ u (piece {bytes} {at} {c} {t} {out = out} {r} w p) short upto past =
+    p .walked .core upto past ∙ alike text bytes at c t w short upto (omega (arith, p .walked .forth, past))
+
+core : (text bytes : List ℕ) (at : ℕ) (c : Control) (t : Tables) → Written text bytes at c t → length text ≤ textLimit
+    → coreOf c t ≡ coreFrom unopened [] (take at text)
+core text bytes at c t w short =
+    let all : at - 0 ≡ at = omega arith in
+    sym (core-here (coreOf c t) text at) ∙ alike text bytes at c t w short at (omega arith)
+    ∙ ap (λ (n : ℕ). coreFrom unopened [] (take n text)) all
+
+-- a text that is too long is at its end from the start, and stays there
+unread : (text bytes : List ℕ) (at : ℕ) (c : Control) (t : Tables) → Written text bytes at c t → textLimit < length text
+    → (length text ≤ at) × (coreOf c t ≡ unopened)
+unread text _ _ _ t (started {out} {r} s room) over =
+    let end : r .next ≡ length text = rw (lt-ltb textLimit (length text) over) at (s .next) in (omega (arith, end), s .core t .0)
+unread text _ _ _ u (piece {bytes} {at} {c} {t} {out = out} {r} w p) over =
+    let sofar = unread text bytes at c t w over in
+    let same = p .ended (sofar .0) in (
+      omega (arith, sofar .0, p .walked .forth),
+      ap (λ (x : Progress). coreOf (x .control) u) (same .0) ∙ ap (coreOf c) (same .1) ∙ sofar .1,
+    )
+
 pub pieces-printed : PiecesPrinted
 pieces-printed = record {
   sofar = sofar;
   whole = λ text bytes at c t w past.
       sym (append-nil bytes) ∙ ap (λ (l : List ℕ). bytes ++ l) (sym (ahead-none (coreOf c t) text at past))
       ∙ sofar text bytes at c t w;
+  core = core;
+  wholeCore = λ text bytes at c t w short past.
+      core text bytes at c t w short ∙ ap (coreFrom unopened []) (take-all at text past);
+  tooLong = λ text bytes at c t w over. unread text bytes at c t w over .1;
 }

@@ -10,8 +10,9 @@ use lib.Dec.{ltb}
 use lib.ListN.{length, take, drop}
 use Rattle.definitions.specs.State.{Core, unopened}
 use Rattle.grammar.specs.Bytes.{textLimit}
-use Rattle.grammar.specs.Printout.{printedFrom, printout}
+use Rattle.grammar.specs.Printout.{printedFrom, coreFrom, printout}
 use Rattle.printer.specs.Printed.{lineRoom}
+use Rattle.reader.specs.LineSpans.{between}
 use Rattle.tables.specs.declared.Control.{Control}
 use Rattle.tables.specs.Tables.{Tables}
 use Rattle.tables.specs.Meaning.{coreOf}
@@ -22,12 +23,20 @@ use Rattle.script.specs.declared.Progress.{Progress}
 abbrev pub ahead : Core → List ℕ → ℕ → List ℕ
 ahead core text at = printedFrom core [] (drop at text)
 
+-- the core behind a text from a place on, up to another
+abbrev pub coreBehind : Core → List ℕ → ℕ → ℕ → Core
+coreBehind core text at upto = coreFrom core [] (between text at upto)
+
 -- Lines from a place on were printed behind some bytes: control, place and number of bytes are then those of r, the tables are
--- u, and the bytes stand in out.
+-- u, and the bytes stand in out. The core is then the one behind the bytes that were passed, and it goes with the text up to any
+-- later place as the core before does.
 pub record Walked (text : List ℕ) (at : ℕ) (c : Control) (t : Tables) (before out : List ℕ) (r : Progress) (u : Tables) : Type 0
   where
     pub printed : take (r .written) out ++ ahead (coreOf (r .control) u) text (r .next) ≡ before ++ ahead (coreOf c t) text at
     pub fits : r .written ≤ length out
+    pub core : (upto : ℕ) → r .next ≤ upto
+        → coreBehind (coreOf (r .control) u) text (r .next) upto ≡ coreBehind (coreOf c t) text at upto
+    pub forth : at ≤ r .next
     pub within : at ≤ length text → r .next ≤ length text
     pub valid : Valid (r .control) u
 
@@ -66,7 +75,7 @@ pub data Written (text : List ℕ) : List ℕ → ℕ → Control → Tables →
       → Written text (bytes ++ take (r .written) out) (r .next) (r .control) u
 
 -- Wherever the pieces have come, what was written with what is ahead is the printout; so at the end of the text it is the
--- printout.
+-- printout. The core there is the one behind the bytes so far, and of a text that is too long it is unopened.
 pub record PiecesPrinted : Type 0 where
   pub sofar : (text bytes : List ℕ) (at : ℕ) (c : Control) (t : Tables)
       → Written text bytes at c t
@@ -75,3 +84,16 @@ pub record PiecesPrinted : Type 0 where
       → Written text bytes at c t
       → length text ≤ at
       → bytes ≡ printout text
+  pub core : (text bytes : List ℕ) (at : ℕ) (c : Control) (t : Tables)
+      → Written text bytes at c t
+      → length text ≤ textLimit
+      → coreOf c t ≡ coreFrom unopened [] (take at text)
+  pub wholeCore : (text bytes : List ℕ) (at : ℕ) (c : Control) (t : Tables)
+      → Written text bytes at c t
+      → length text ≤ textLimit
+      → length text ≤ at
+      → coreOf c t ≡ coreFrom unopened [] text
+  pub tooLong : (text bytes : List ℕ) (at : ℕ) (c : Control) (t : Tables)
+      → Written text bytes at c t
+      → textLimit < length text
+      → coreOf c t ≡ unopened

@@ -23,7 +23,6 @@ Inv-loop text at out₀ terms₀ stocks₀ handles₀ lengths₀ links₀ core�
     let sofar : Progress = record { control = core; next = place; written = written } in
     (length out ≡ length out₀)
     × Walked text at core₀ before [] out sofar after
-    × (at ≤ place)
     × (place ≤ at → written ≡ 0)
     × (length out < lineRoom → Unmoved at core₀ before sofar after)
     × (length text ≤ at → Unmoved at core₀ before sofar after)
@@ -33,7 +32,7 @@ abbrev μ-loop : tie.MeasureT-loop
     length text - place
 
 loop-holds : tie.Need-loop-holds Inv-loop μ-loop
-loop-holds c = (refl, walked-none _ _ _ _ _ (c .before .before .pre), omega arith, λ still. refl, λ little. (refl, refl), λ past. (refl, refl))
+loop-holds c = (refl, walked-none _ _ _ _ _ (c .before .before .pre), λ still. refl, λ little. (refl, refl), λ past. (refl, refl))
 
 goes-on-requires : tie.Need-goes-on-requires Inv-loop μ-loop
 goes-on-requires c κs = search needs
@@ -64,10 +63,9 @@ loop-again c =
     let before = test .before .before .loop .inv in (
       search needs,
       walked-more (before .1) (line .0),
-      omega (arith, before .2, line .1),
-      λ still. absurd (omega (arith, before .2, line .1)),
+      λ still. absurd (omega (arith, before .1 .forth, line .1)),
       λ little. absurd (omega (arith, going test .1, same)),
-      λ past. absurd (omega (arith, going test .0, before .2)),
+      λ past. absurd (omega (arith, going test .0, before .1 .forth)),
     )
 
 same-length : tie.Need-same-length Inv-loop μ-loop
@@ -77,7 +75,7 @@ returns : tie.Need-returns Inv-loop μ-loop
 returns c =
     let loop = c .before .before .loop in
     let text = c .before .before .before .before .before .args .text .now in
-    piece-done (loop .inv .1) (off text _ _ _ (c .before .goes-on .ensures) (c .if1 .left)) (loop .inv .3) (loop .inv .4) (loop .inv .5)
+    piece-done (loop .inv .1) (off text _ _ _ (c .before .goes-on .ensures) (c .if1 .left)) (loop .inv .2) (loop .inv .3) (loop .inv .4)
 
 pub piece-spec : {M : Type 1} → statement M
 piece-spec =
