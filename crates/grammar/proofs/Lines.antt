@@ -1,5 +1,6 @@
 -- A text goes line by line: what a closed line prints stands before what the rest prints, and bytes behind the last line
--- feed print one refusal; the core behind a closed line is the one that the rest begins with. By induction over the line's bytes, none of which is a line feed. Assumes nothing.
+-- feed print one refusal; the core behind a closed line is the one that the rest begins with. By induction over the line's
+-- bytes, none of which is a line feed. Assumes nothing.
 use Prim.Native.Nat.{ℕ}
 use mathlib.Core.Path.{_≡_, refl, sym, ap, _∙_}
 use mathlib.Core.Logic.{_≢_}

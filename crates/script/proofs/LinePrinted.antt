@@ -76,7 +76,8 @@ module _ (core : Core) (text : List ℕ) (at : ℕ) (before after : List ℕ) wh
         → after ++ ahead (answered core (parsed (between text at end)) .core) text (suc end) ≡ before ++ ahead core text at
     closed-printed inside feed whole wrote =
         let line = between text at end in
-        let first = ap (printedFrom core []) (split-closed text at end forth inside feed) ∙ line-closed core line (drop (suc end) text) whole in
+        let split = split-closed text at end forth inside feed in
+        let first = ap (printedFrom core []) split ∙ line-closed core line (drop (suc end) text) whole in
         ap (λ (l : List ℕ). l ++ ahead (answered core (parsed line) .core) text (suc end)) wrote
         ∙ append-assoc before _ _
         ∙ ap (λ (l : List ℕ). before ++ l) (sym first)

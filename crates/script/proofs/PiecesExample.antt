@@ -1,13 +1,15 @@
 -- There are pieces: a text is one piece, given a buffer with room for its printout; and the example, computed. Assumes nothing.
 use Prim.Native.Nat.{ℕ, _+_, _-_, _≤_, _<_}
 use mathlib.Core.Path.{_≡_, refl, sym, ap, subst, _∙_}
-use mathlib.Core.Bool.{false}
+use mathlib.Core.Bool.{true, false}
 use mathlib.Core.List.{List, [], _++_, append-nil}
 use native.Mathlib.Omega.{arith}
 use lib.ListN.{length, take, replicate, length-append}
 use lib.Seq.{sets, take-all, take-append-seam}
-use Rattle.definitions.specs.declared.Answer.the-variants.{Refused}
+use Rattle.definitions.specs.declared.Answer.the-variants.{Accepted, Refused}
+use Rattle.definitions.specs.Event.{Open}
 use Rattle.definitions.specs.State.{Core, unopened}
+use Rattle.definitions.specs.Core.{step}
 use Rattle.definitions.proofs.Laws.Tests.{lt-cases, true-false}
 use Rattle.grammar.specs.Bytes.{bytes, textLimit}
 use Rattle.grammar.specs.Printout.{printed, coreFrom}
@@ -19,7 +21,10 @@ use Rattle.tables.specs.declared.Control.{Control}
 use Rattle.tables.specs.Tables.{Tables}
 use Rattle.tables.specs.Meaning.{coreOf}
 use Rattle.tables.specs.Invariant.{Valid}
+use Rattle.tables.specs.Promise.{Meets}
+use Rattle.tables.specs.Numbers.{firstFailed}
 use Rattle.opening.proofs.EmptyTables.{emptyControl, emptyTables}
+use Rattle.opening.proofs.OpenPromise.{open-accepted}
 use Rattle.tables.proofs.Promises.{coreOf-shut}
 use Rattle.script.specs.Pieces.{ahead, coreBehind, Piece, Written, started, piece}
 use Rattle.script.specs.PiecesExample.{twoLines, buffer, progress, ThreePieces, Held, Ended, PiecesExist}
@@ -78,12 +83,26 @@ module _ (text : List ℕ) (inside : 0 < length text) (c : Control) (t : Tables)
 read : (text : List ℕ) → length text ≤ textLimit → Held text → Ended text
 read text short (c, t, valid, held) =
     lt-cases 0 (length text)
-    (λ inside. (take (length (all text inside c t valid held)) (out text inside c t valid held), c, t, piece begun (whole text inside c t valid held)))
+    (λ inside. (_, c, t, piece begun (whole text inside c t valid held)))
     (λ none. let empty : 0 ≡ length text = omega arith in
     ([], shut, emptyTables, subst (λ (n : ℕ). Written text [] n shut emptyTables) empty begun))
   where
     begun : Written text [] 0 shut emptyTables
     begun = started (start-read text shut new (replicate 64 0) short) (omega arith)
+
+-- an open is accepted
+opened : Meets (Open 50 1 7) shut emptyTables (record { control = emptyControl true 50 1 7; answer = Accepted }) emptyTables
+unfolding printing firstFailed
+opened = open-accepted shut emptyTables (new emptyTables .1) 50 1 7 _ refl refl
+
+held : Held (bytes "(open 50 1 7)\n")
+unfolding printing
+held = (
+  emptyControl true 50 1 7,
+  emptyTables,
+  opened .valid,
+  opened .core ∙ ap (λ (x : Core). step x (Open 50 1 7) .core) (new emptyTables .0),
+)
 
 -- a text that is too long, whose line is written at the start
 long : (text : List ℕ) → textLimit < length text → Ended text
@@ -163,5 +182,6 @@ pub pieces-exist : PiecesExist
 pieces-exist = record {
   tooLong = long;
   read = read;
+  held = held;
   example = (shut, emptyTables, three);
 }

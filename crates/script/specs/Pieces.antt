@@ -28,8 +28,8 @@ abbrev pub coreBehind : Core → List ℕ → ℕ → ℕ → Core
 coreBehind core text at upto = coreFrom core [] (between text at upto)
 
 -- Lines from a place on were printed behind some bytes: control, place and number of bytes are then those of r, the tables are
--- u, and the bytes stand in out. The core is then the one behind the bytes that were passed, and it goes with the text up to any
--- later place as the core before does.
+-- u, and the bytes stand in out. Up to any place from there on the core goes as the one before does: up to the place itself, it
+-- is the core behind the bytes that were passed.
 pub record Walked (text : List ℕ) (at : ℕ) (c : Control) (t : Tables) (before out : List ℕ) (r : Progress) (u : Tables) : Type 0
   where
     pub printed : take (r .written) out ++ ahead (coreOf (r .control) u) text (r .next) ≡ before ++ ahead (coreOf c t) text at

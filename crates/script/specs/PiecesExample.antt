@@ -1,6 +1,7 @@
 -- There are pieces as `Pieces` speaks of them: to the end of any text that is too long, and of any other if some control and
--- tables hold the core behind it; and, as an example, those of a text of two lines into three buffers. The first has no room for a line, and nothing is written; the second has room for one line; the third is given
--- the rest.
+-- tables hold the core behind it, as they do behind an open; and, as an example, those of a text of two lines into three
+-- buffers. The first has no room for a line, and nothing is written; the second has room for one line; the third is given the
+-- rest.
 use Prim.Native.Nat.{ℕ, _≤_, _<_}
 use mathlib.Core.Path.{_≡_}
 use mathlib.Core.List.{List, [], _++_}
@@ -42,4 +43,5 @@ Ended text = (bytes : List ℕ) × (c : Control) × (t : Tables) × Written text
 pub record PiecesExist : Type 0 where
   pub tooLong : (text : List ℕ) → textLimit < length text → Ended text
   pub read : (text : List ℕ) → length text ≤ textLimit → Held text → Ended text
+  pub held : Held (bytes "(open 50 1 7)\n")
   pub example : (c : Control) × (t : Tables) × ThreePieces c t
