@@ -14,14 +14,14 @@ use Rattle.grammar.specs.Numerals.{isDigit, leading, behind, isNumeral, 
 use Rattle.grammar.specs.Templates.{limits, numbersFit, filled, matched}
 use Rattle.grammar.specs.Grammar.{sized, parsedBy, parsed}
 use Rattle.grammar.proofs.AllForms.{forms}
-use Rattle.grammar.specs.Printout.{printed, answered, printedFrom, printout}
+use Rattle.grammar.specs.Printout.{printed, answered, printedFrom, coreFrom, printout}
 use Rattle.grammar.specs.Lines.{lines, heldFrom, heard, toldFrom, told}
 use Rattle.grammar.specs.Sheet.{noted, notedFrom}
 use Rattle.grammar.specs.Examples.{PaperPrintout, BadPrintout, silence, CallAndSilence, tooLong, LimitNeeded}
 
 unfoldable pub printing : Type 0
 unfolding everything textLimit numberLimit handleLimit isDigit leading behind isNumeral valueFrom digits decimal filled matched
-    limits numbersFit forms sized parsedBy parsed printed answered printedFrom printout
+    limits numbersFit forms sized parsedBy parsed printed answered printedFrom coreFrom printout
 printing = Unit {0}
 
 -- and what reads a text beside its printout

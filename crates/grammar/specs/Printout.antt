@@ -48,6 +48,15 @@ printedFrom core line (b ∷ text) =
       | false ↦ printedFrom core (line ++ (b ∷ [])) text
     ]
 
+-- The core behind what is left of a text, likewise. Bytes after the last line feed leave it as it was.
+unfoldable pub coreFrom : Core → List ℕ → List ℕ → Core
+coreFrom core line [] = core
+coreFrom core line (b ∷ text) =
+    elim (eqb b lineFeed) [
+      | true ↦ coreFrom (answered core (parsed line) .core) [] text
+      | false ↦ coreFrom core (line ++ (b ∷ [])) text
+    ]
+
 -- "whole text over 60,000 bytes; the only line printed"
 unfoldable pub printout : List ℕ → List ℕ
 printout text = elim (ltb textLimit (length text)) [ true ↦ printed (Refused 18) | false ↦ printedFrom unopened [] text ]

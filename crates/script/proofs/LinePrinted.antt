@@ -1,36 +1,74 @@
--- What the first line ahead prints: its answer, and behind it what is ahead then. Assumes nothing.
+-- What the first line ahead prints: its answer, and behind it what is ahead then; and the core behind it. Assumes nothing.
 use Prim.Native.Nat.{ℕ, suc, _+_, _-_, _≤_, _<_}
 use mathlib.Core.Path.{_≡_, sym, ap, _∙_}
 use mathlib.Core.List.{List, [], _∷_, _++_, append-assoc, append-nil}
 use native.Mathlib.Omega.{arith}
-use lib.ListN.{length, getD, drop, take-append-drop, drop-of-length-le}
-use lib.Seq.{drop-cons, drop-drop}
+use lib.ListN.{length, getD, take, drop, length-drop, take-append-drop, drop-of-length-le}
+use lib.Seq.{drop-cons, drop-drop, take-add, take-all, take-nil}
 use Rattle.definitions.specs.declared.Answer.the-variants.{Refused}
 use Rattle.definitions.specs.State.{Core}
 use Rattle.grammar.specs.Bytes.{lineFeed, Unbroken}
 use Rattle.grammar.specs.Grammar.{parsed}
-use Rattle.grammar.specs.Printout.{printed, answered, printedFrom}
-use Rattle.grammar.proofs.Lines.{line-closed, line-open}
+use Rattle.grammar.specs.Printout.{printed, answered, printedFrom, coreFrom}
+use Rattle.grammar.proofs.Lines.{line-closed, line-open, core-closed, core-open}
 use Rattle.reader.specs.LineSpans.{between}
-use Rattle.script.specs.Pieces.{ahead}
+use Rattle.script.specs.Pieces.{ahead, coreBehind}
 
 -- nothing is ahead behind the last byte
 pub ahead-none : (core : Core) (text : List ℕ) (at : ℕ) → length text ≤ at → ahead core text at ≡ []
 unfolding printedFrom
 ahead-none core text at past = ap (printedFrom core []) (drop-of-length-le text past)
 
+-- and up to the place itself no byte is passed
+pub core-here : (core : Core) (text : List ℕ) (at : ℕ) → coreBehind core text at at ≡ core
+unfolding coreFrom
+core-here core text at = let none : at - at ≡ 0 = omega arith in ap (λ (n : ℕ). coreFrom core [] (take n (drop at text))) none
+
+-- nor behind the last byte
+pub core-past : (core : Core) (text : List ℕ) (at upto : ℕ) → length text ≤ at → coreBehind core text at upto ≡ core
+unfolding coreFrom
+core-past core text at upto past =
+    ap (coreFrom core []) (ap (take (upto - at)) (drop-of-length-le text past) ∙ take-nil (upto - at))
+
+-- where a line feed closes a line
+module _ (text : List ℕ) (at end : ℕ) (forth : at ≤ end) (inside : end < length text) (feed : getD text end 0 ≡ lineFeed) where
+  from-feed : drop (end - at) (drop at text) ≡ lineFeed ∷ drop (suc end) text
+  from-feed =
+      let whole : at + (end - at) ≡ end = omega arith in
+      drop-drop (end - at) at text
+      ∙ ap (λ (n : ℕ). drop n text) whole
+      ∙ drop-cons text end 0 inside
+      ∙ ap (λ (b : ℕ). b ∷ drop (suc end) text) feed
+
+  split-closed : drop at text ≡ between text at end ++ lineFeed ∷ drop (suc end) text
+  split-closed =
+      sym (take-append-drop (end - at) (drop at text)) ∙ ap (λ (l : List ℕ). between text at end ++ l) from-feed
+
+  between-closed : (upto : ℕ) → end < upto → between text at upto ≡ between text at end ++ lineFeed ∷ between text (suc end) upto
+  between-closed upto past =
+      let count : upto - at ≡ (end - at) + suc (upto - suc end) = omega arith in
+      ap (λ (n : ℕ). take n (drop at text)) count
+      ∙ take-add (end - at) (suc (upto - suc end)) (drop at text)
+      ∙ ap (λ (l : List ℕ). between text at end ++ take (suc (upto - suc end)) l) from-feed
+
+  pub closed-core : (core : Core) → Unbroken (between text at end) → (upto : ℕ) → suc end ≤ upto
+      → coreBehind (answered core (parsed (between text at end)) .core) text (suc end) upto ≡ coreBehind core text at upto
+  closed-core core whole upto past =
+      sym (ap (coreFrom core []) (between-closed upto past)
+      ∙ core-closed core (between text at end) (between text (suc end) upto) whole)
+
+-- bytes that no line feed closes leave the core
+pub open-core : (core : Core) (text : List ℕ) (at : ℕ) → at ≤ length text → Unbroken (drop at text)
+    → (upto : ℕ) → length text ≤ upto
+    → coreBehind core text (length text) upto ≡ coreBehind core text at upto
+open-core core text at inside whole upto past =
+    let all = take-all (upto - at) (drop at text) (omega (arith, length-drop at text)) in
+    core-past core text (length text) upto (omega arith)
+    ∙ sym (ap (coreFrom core []) all ∙ core-open core (drop at text) whole)
+
 module _ (core : Core) (text : List ℕ) (at : ℕ) (before after : List ℕ) where
   -- a line that a line feed closes
   module _ (end : ℕ) (forth : at ≤ end) where
-    split-closed : end < length text → getD text end 0 ≡ lineFeed
-        → drop at text ≡ between text at end ++ lineFeed ∷ drop (suc end) text
-    split-closed inside feed =
-        let whole : at + (end - at) ≡ end = omega arith in
-        sym (take-append-drop (end - at) (drop at text))
-        ∙ ap (λ (l : List ℕ). between text at end ++ l)
-        (drop-drop (end - at) at text ∙ ap (λ (n : ℕ). drop n text) whole ∙ drop-cons text end 0 inside
-        ∙ ap (λ (b : ℕ). b ∷ drop (suc end) text) feed)
-
     pub closed-printed : end < length text
         → getD text end 0 ≡ lineFeed
         → Unbroken (between text at end)
@@ -38,7 +76,8 @@ module _ (core : Core) (text : List ℕ) (at : ℕ) (before after : List ℕ) wh
         → after ++ ahead (answered core (parsed (between text at end)) .core) text (suc end) ≡ before ++ ahead core text at
     closed-printed inside feed whole wrote =
         let line = between text at end in
-        let first = ap (printedFrom core []) (split-closed inside feed) ∙ line-closed core line (drop (suc end) text) whole in
+        let split = split-closed text at end forth inside feed in
+        let first = ap (printedFrom core []) split ∙ line-closed core line (drop (suc end) text) whole in
         ap (λ (l : List ℕ). l ++ ahead (answered core (parsed line) .core) text (suc end)) wrote
         ∙ append-assoc before _ _
         ∙ ap (λ (l : List ℕ). before ++ l) (sym first)

@@ -28,8 +28,8 @@ use Rattle.tables.specs.Promise.{Meets}
 use Rattle.reader.specs.declared.Span.{Span}
 use Rattle.reader.specs.LineSpans.{between, spanAt, LineEnd}
 use Rattle.reader.proofs.LineEnds.{span-end, span-feed, span-last}
-use Rattle.script.specs.Pieces.{ahead, Walked}
-use Rattle.script.proofs.LinePrinted.{closed-printed, open-printed}
+use Rattle.script.specs.Pieces.{ahead, coreBehind, Walked}
+use Rattle.script.proofs.LinePrinted.{closed-printed, closed-core, open-printed, open-core}
 
 module _ (text : List ℕ) (at : ℕ) (out : List ℕ) (written : ℕ) (c : Control) (t : Tables)
     (inside : at < length text) (room : written + lineRoom ≤ length out) (span : Span) (read : span ≡ spanAt text at) where
@@ -51,13 +51,17 @@ module _ (text : List ℕ) (at : ℕ) (out : List ℕ) (written : ℕ) (c : Cont
   further : {answer : Answer} {new : List ℕ} {more : ℕ} → Printed answer out written new more
       → (d : Control) (u : Tables) (next : ℕ) → Valid d u → span .next ≡ next → at < next → next ≤ length text
       → take more new ++ ahead (coreOf d u) text next ≡ take written out ++ ahead (coreOf c t) text at
+      → ((upto : ℕ) → next ≤ upto → coreBehind (coreOf d u) text next upto ≡ coreBehind (coreOf c t) text at upto)
       → Further new more d u
-  further {new = new} {more} p d u next valid e forth within printed =
+  further {new = new} {more} p d u next valid e forth within printed core =
       let a = wrote p in
       let goal = take written out ++ ahead (coreOf c t) text at in (
         record {
           printed = subst (λ (n : ℕ). take more new ++ ahead (coreOf d u) text n ≡ goal) (sym e) printed;
           fits = omega (arith, a .room, appended-length a);
+          core = λ upto past.
+              ap (λ (n : ℕ). coreBehind (coreOf d u) text n upto) e ∙ core upto (omega (arith, e, past));
+          forth = omega (arith, e, forth);
           within = λ before. omega (arith, e, within);
           valid = valid;
         },
@@ -71,6 +75,7 @@ module _ (text : List ℕ) (at : ℕ) (out : List ℕ) (written : ℕ) (c : Cont
       let whole = subst Unbroken (take-all (end - at) (drop at text) (omega (arith, length-drop at text, e))) (l .unbroken) in
       further p c t (length text) valid (span-last text at span read (omega arith) ∙ e) inside (omega arith)
       (open-printed (coreOf c t) text at (take written out) (take more new) inside whole (appended-front (wrote p)))
+      (open-core (coreOf c t) text at (omega arith) whole)
 
   module _ (feed : end < length text) where
     -- a closed line, by what it holds
@@ -81,6 +86,7 @@ module _ (text : List ℕ) (at : ℕ) (out : List ℕ) (written : ℕ) (c : Cont
         → coreOf d u ≡ answered (coreOf c t) line .core
         → Further new more d u
     closed {new} {more} p line held d u valid answer core =
+        let made = ap (λ (x : Line). answered (coreOf c t) x .core) held ∙ sym core in
         let next =
         closed-printed (coreOf c t) text at (take written out) (take more new) end (l .forth) feed (l .closed feed) (l .unbroken)
         (appended-front (wrote p)
@@ -88,7 +94,10 @@ module _ (text : List ℕ) (at : ℕ) (out : List ℕ) (written : ℕ) (c : Cont
         (answer ∙ ap (λ (x : Line). answered (coreOf c t) x .answer) (sym held))) in
         further p d u (suc end) valid (span-feed text at span read feed) (omega (arith, l .forth)) feed
         (subst (λ (x : Core). take more new ++ ahead x text (suc end) ≡ take written out ++ ahead (coreOf c t) text at)
-        (ap (λ (x : Line). answered (coreOf c t) x .core) held ∙ sym core) next)
+        made next)
+        (λ upto past.
+        ap (λ (x : Core). coreBehind x text (suc end) upto) (sym made)
+        ∙ closed-core text at end (l .forth) feed (l .closed feed) (coreOf c t) (l .unbroken) upto past)
 
     -- a line without a form
     pub walked-unread : {new : List ℕ} {more : ℕ} (n : ℕ) → Valid c t → parsed (between text at end) ≡ Unread n

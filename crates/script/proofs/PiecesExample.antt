@@ -1,27 +1,34 @@
--- There are pieces: any text is one piece, given a buffer as long as its printout; and the example, computed. Assumes nothing.
-use Prim.Native.Nat.{ℕ, _≤_, _<_}
+-- There are pieces: a text is one piece, given a buffer with room for its printout; and the example, computed. Assumes nothing.
+use Prim.Native.Nat.{ℕ, _+_, _-_, _≤_, _<_}
 use mathlib.Core.Path.{_≡_, refl, sym, ap, subst, _∙_}
-use mathlib.Core.Bool.{false}
+use mathlib.Core.Bool.{true, false}
 use mathlib.Core.List.{List, [], _++_, append-nil}
 use native.Mathlib.Omega.{arith}
-use lib.ListN.{length, take, replicate}
-use lib.Seq.{sets, take-all}
-use Rattle.definitions.specs.declared.Answer.the-variants.{Refused}
+use lib.ListN.{length, take, replicate, length-append}
+use lib.Seq.{sets, take-all, take-append-seam}
+use Rattle.definitions.specs.declared.Answer.the-variants.{Accepted, Refused}
+use Rattle.definitions.specs.Event.{Open}
 use Rattle.definitions.specs.State.{Core, unopened}
+use Rattle.definitions.specs.Core.{step}
 use Rattle.definitions.proofs.Laws.Tests.{lt-cases, true-false}
 use Rattle.grammar.specs.Bytes.{bytes, textLimit}
-use Rattle.grammar.specs.Printout.{printed}
+use Rattle.grammar.specs.Printout.{printed, coreFrom}
 use Rattle.grammar.proofs.Examples.{printing}
 use Rattle.printer.specs.Printed.{Printed}
+use Rattle.reader.specs.LineSpans.{lineEnd, spanAt, LineEnd}
+use Rattle.reader.proofs.LineEnds.{span-end}
 use Rattle.tables.specs.declared.Control.{Control}
 use Rattle.tables.specs.Tables.{Tables}
 use Rattle.tables.specs.Meaning.{coreOf}
 use Rattle.tables.specs.Invariant.{Valid}
+use Rattle.tables.specs.Promise.{Meets}
+use Rattle.tables.specs.Numbers.{firstFailed}
 use Rattle.opening.proofs.EmptyTables.{emptyControl, emptyTables}
+use Rattle.opening.proofs.OpenPromise.{open-accepted}
 use Rattle.tables.proofs.Promises.{coreOf-shut}
-use Rattle.script.specs.Pieces.{ahead, Piece, Written, started, piece}
-use Rattle.script.specs.PiecesExample.{twoLines, buffer, progress, ThreePieces, PiecesExist}
-use Rattle.script.proofs.LinePrinted.{ahead-none}
+use Rattle.script.specs.Pieces.{ahead, coreBehind, Piece, Written, started, piece}
+use Rattle.script.specs.PiecesExample.{twoLines, buffer, progress, ThreePieces, Held, Ended, PiecesExist}
+use Rattle.script.proofs.LinePrinted.{ahead-none, core-past, closed-core, open-core}
 use Rattle.script.proofs.PiecesPrinted.{walked-none, start-read, start-long}
 
 abbrev shut : Control
@@ -32,36 +39,70 @@ new t = (coreOf-shut shut t refl, λ e. true-false e refl)
 
 -- ---- any text
 
-abbrev Ended : List ℕ → Type 0
-Ended text = (bytes : List ℕ) × (c : Control) × (t : Tables) × Written text bytes (length text) c t
+-- a text that is read, in one buffer with room behind all that it prints
+module _ (text : List ℕ) (inside : 0 < length text) (c : Control) (t : Tables) (valid : Valid c t)
+    (held : coreOf c t ≡ coreFrom unopened [] text) where
+  abbrev first : Core
+  first = coreOf shut emptyTables
 
--- a text that is read, in one buffer for all that it prints
-read : (text : List ℕ) → length text ≤ textLimit → Ended text
-read text short = (
-  take (length out) out,
-  shut,
-  emptyTables,
-  piece (started (start-read text shut new (replicate 64 0) short) (omega arith)) all,
-)
+  abbrev all : List ℕ
+  all = ahead first text 0
+
+  abbrev out : List ℕ
+  out = all ++ replicate 64 0
+
+  room : length out ≡ length all + 64
+  room = length-append all (replicate 64 0)
+
+  core : (upto : ℕ) → length text ≤ upto → coreBehind (coreOf c t) text (length text) upto ≡ coreBehind first text 0 upto
+  core upto past =
+      core-past (coreOf c t) text (length text) upto (omega arith)
+      ∙ held
+      ∙ sym (ap (coreFrom first []) (take-all (upto - 0) text (omega arith))
+      ∙ ap (λ (x : Core). coreFrom x [] text) (new emptyTables .0))
+
+  whole : Piece text 0 shut emptyTables out (progress c (length text) (length all)) t
+  whole = record {
+    walked = record {
+      printed =
+          ap (λ (l : List ℕ). take (length all) out ++ l) (ahead-none (coreOf c t) text (length text) (omega arith))
+          ∙ append-nil (take (length all) out)
+          ∙ take-append-seam all (replicate 64 0);
+      fits = omega (arith, room);
+      core = core;
+      forth = omega arith;
+      within = λ here. omega arith;
+      valid = valid;
+    };
+    full = λ more. absurd (omega arith);
+    onward = λ some more. inside;
+    bare = λ little. absurd (omega (arith, room));
+    ended = λ past. absurd (omega arith);
+  }
+
+read : (text : List ℕ) → length text ≤ textLimit → Held text → Ended text
+read text short (c, t, valid, held) =
+    lt-cases 0 (length text)
+    (λ inside. (_, c, t, piece begun (whole text inside c t valid held)))
+    (λ none. let empty : 0 ≡ length text = omega arith in
+    ([], shut, emptyTables, subst (λ (n : ℕ). Written text [] n shut emptyTables) empty begun))
   where
-    out : List ℕ
-    out = ahead (coreOf shut emptyTables) text 0
+    begun : Written text [] 0 shut emptyTables
+    begun = started (start-read text shut new (replicate 64 0) short) (omega arith)
 
-    all : Piece text 0 shut emptyTables out (progress shut (length text) (length out)) emptyTables
-    all = record {
-      walked = record {
-        printed =
-            ap (λ (l : List ℕ). take (length out) out ++ l)
-            (ahead-none (coreOf shut emptyTables) text (length text) (omega arith))
-            ∙ append-nil (take (length out) out)
-            ∙ take-all (length out) out (omega arith);
-        fits = omega arith;
-        within = λ here. omega arith;
-        valid = new emptyTables .1;
-      };
-      full = λ more. absurd (omega arith);
-      onward = λ inside room. inside;
-    }
+-- an open is accepted
+opened : Meets (Open 50 1 7) shut emptyTables (record { control = emptyControl true 50 1 7; answer = Accepted }) emptyTables
+unfolding printing firstFailed
+opened = open-accepted shut emptyTables (new emptyTables .1) 50 1 7 _ refl refl
+
+held : Held (bytes "(open 50 1 7)\n")
+unfolding printing
+held = (
+  emptyControl true 50 1 7,
+  emptyTables,
+  opened .valid,
+  opened .core ∙ ap (λ (x : Core). step x (Open 50 1 7) .core) (new emptyTables .0),
+)
 
 -- a text that is too long, whose line is written at the start
 long : (text : List ℕ) → textLimit < length text → Ended text
@@ -85,7 +126,17 @@ bare = record {
   walked = walked-none twoLines 0 shut emptyTables [] (new emptyTables .1);
   full = λ more. omega arith;
   onward = λ inside room. absurd (omega arith);
+  bare = λ little. (refl, refl);
+  ended = λ past. (refl, refl);
 }
+
+firstLine : LineEnd twoLines 0 6
+unfolding lineEnd
+firstLine = span-end twoLines 0 (spanAt twoLines 0) refl (omega arith)
+
+lastLine : LineEnd twoLines 7 15
+unfolding lineEnd
+lastLine = span-end twoLines 7 (spanAt twoLines 7) refl (omega arith)
 
 line : Piece twoLines 0 shut emptyTables (buffer (bytes "(refused 19)\n")) (progress shut 7 13) emptyTables
 unfolding printing
@@ -93,11 +144,17 @@ line = record {
   walked = record {
     printed = rw (new emptyTables .0) refl;
     fits = omega arith;
+    core = λ upto past.
+        subst (λ (core : Core). coreBehind core twoLines 7 upto ≡ coreBehind core twoLines 0 upto) (sym (new emptyTables .0))
+        (closed-core twoLines 0 6 (omega arith) (omega arith) refl unopened (firstLine .unbroken) upto past);
+    forth = omega arith;
     within = λ here. omega arith;
     valid = new emptyTables .1;
   };
   full = λ more. omega arith;
   onward = λ inside room. omega arith;
+  bare = λ little. absurd (omega arith);
+  ended = λ past. absurd (omega arith);
 }
 
 rest : Piece twoLines 7 shut emptyTables (buffer (bytes "(refused 16)\n")) (progress shut 15 13) emptyTables
@@ -106,11 +163,15 @@ rest = record {
   walked = record {
     printed = subst (λ (core : Core). bytes "(refused 16)\n" ≡ ahead core twoLines 7) (sym (new emptyTables .0)) refl;
     fits = omega arith;
+    core = open-core (coreOf shut emptyTables) twoLines 7 (omega arith) (lastLine .unbroken);
+    forth = omega arith;
     within = λ here. omega arith;
     valid = new emptyTables .1;
   };
   full = λ more. omega arith;
   onward = λ inside room. omega arith;
+  bare = λ little. absurd (omega arith);
+  ended = λ past. absurd (omega arith);
 }
 
 three : ThreePieces shut emptyTables
@@ -119,6 +180,8 @@ three = record { start = start-read twoLines shut new (replicate 64 0) (omega ar
 
 pub pieces-exist : PiecesExist
 pieces-exist = record {
-  anyText = λ text. lt-cases textLimit (length text) (λ over. long text over) (λ short. read text short);
+  tooLong = long;
+  read = read;
+  held = held;
   example = (shut, emptyTables, three);
 }

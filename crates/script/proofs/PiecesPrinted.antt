@@ -1,16 +1,17 @@
 -- The pieces of a text are its printout: each equation puts what one piece wrote before what is ahead, so they chain, whatever
 -- the buffers' lengths. Assumes nothing.
-use Prim.Native.Nat.{ℕ, _+_, _≤_, _<_}
+use Prim.Native.Nat.{ℕ, _+_, _-_, _≤_, _<_}
 use mathlib.Core.Path.{_≡_, refl, sym, ap, _∙_}
 use mathlib.Core.List.{List, [], _++_, append-assoc, append-nil}
 use native.Mathlib.Omega.{arith}
 use lib.ListN.{length, take}
+use lib.Seq.{take-all}
 use borrow.Author.Tests.{lt-ltb, le-ltb}
 use Rattle.definitions.specs.declared.Answer.the-variants.{Refused}
 use Rattle.definitions.specs.State.{Core, unopened}
 use Rattle.definitions.proofs.Laws.Tests.{lt-cases}
 use Rattle.grammar.specs.Bytes.{textLimit}
-use Rattle.grammar.specs.Printout.{printed, printout}
+use Rattle.grammar.specs.Printout.{printed, coreFrom, printout}
 use Rattle.printer.specs.Printed.{lineRoom, Printed}
 use Rattle.printer.proofs.Appending.{appended-front}
 use Rattle.tables.specs.declared.Control.{Control}
@@ -18,14 +19,21 @@ use Rattle.tables.specs.Tables.{Tables}
 use Rattle.tables.specs.Meaning.{coreOf}
 use Rattle.tables.specs.Invariant.{Valid}
 use Rattle.script.specs.declared.Progress.{Progress}
-use Rattle.script.specs.Pieces.{ahead, Walked, Piece, Start, Written, started, piece, PiecesPrinted}
-use Rattle.script.proofs.LinePrinted.{ahead-none}
+use Rattle.script.specs.Pieces.{ahead, coreBehind, Walked, Unmoved, Piece, Start, Written, started, piece, PiecesPrinted}
+use Rattle.script.proofs.LinePrinted.{ahead-none, core-here}
 
 -- ---- lines behind one another
 
 pub walked-none : (text : List ℕ) (at : ℕ) (c : Control) (t : Tables) (out : List ℕ) → Valid c t
     → Walked text at c t [] out (record { control = c; next = at; written = 0 }) t
-walked-none text at c t out valid = record { printed = refl; fits = omega arith; within = λ here. here; valid = valid }
+walked-none text at c t out valid = record {
+  printed = refl;
+  fits = omega arith;
+  core = λ upto past. refl;
+  forth = omega arith;
+  within = λ here. here;
+  valid = valid;
+}
 
 pub walked-more : {text : List ℕ} {at : ℕ} {c : Control} {t : Tables} {before out : List ℕ} {r : Progress} {u : Tables}
     {last : List ℕ}
@@ -36,6 +44,8 @@ pub walked-more : {text : List ℕ} {at : ℕ} {c : Control} {t : Tables} {befor
 walked-more w more = record {
   printed = more .printed ∙ w .printed;
   fits = more .fits;
+  core = λ upto past. more .core upto past ∙ w .core upto (omega (arith, more .forth, past));
+  forth = omega (arith, w .forth, more .forth);
   within = λ here. more .within (w .within here);
   valid = more .valid;
 }
@@ -45,12 +55,16 @@ pub piece-done : {text : List ℕ} {at : ℕ} {c : Control} {t : Tables} {out : 
     → Walked text at c t [] out r u
     → (r .next < length text → length out < r .written + lineRoom)
     → (r .next ≤ at → r .written ≡ 0)
+    → (length out < lineRoom → Unmoved at c t r u)
+    → (length text ≤ at → Unmoved at c t r u)
     → Piece text at c t out r u
-piece-done {text} {at} {out = out} {r} w full still = record {
+piece-done {text} {at} {out = out} {r} w full still bare ended = record {
   walked = w;
   full = full;
   onward = λ inside room.
       lt-cases at (r .next) (λ forth. forth) (λ back. absurd (omega (arith, full (omega arith), still back)));
+  bare = bare;
+  ended = ended;
 }
 
 -- ---- before the first piece
@@ -62,8 +76,7 @@ module _ (text : List ℕ) (c : Control) (new : (t : Tables) → (coreOf c t ≡
     printed = λ room. rw (printout, le-ltb textLimit (length text) short) refl;
     bare = λ little. refl;
     fits = omega arith;
-    within = omega arith;
-    read = λ more. short;
+    next = rw (le-ltb textLimit (length text) short) refl;
     core = new;
   }
 
@@ -79,8 +92,7 @@ module _ (text : List ℕ) (c : Control) (new : (t : Tables) → (coreOf c t ≡
         ∙ rw (printout, lt-ltb textLimit (length text) over) refl;
     bare = λ little. p .untouched (omega arith) .0;
     fits = fits;
-    within = omega arith;
-    read = λ more. absurd (omega arith);
+    next = rw (lt-ltb textLimit (length text) over) refl;
     core = new;
   }
     where
@@ -88,6 +100,14 @@ module _ (text : List ℕ) (c : Control) (new : (t : Tables) → (coreOf c t ≡
       fits =
           lt-cases (length out) lineRoom (λ little. omega (arith, p .untouched (omega arith) .0))
           (λ room. omega (arith, p .written (omega arith) .room))
+
+-- the place before the first piece is in the text, and at its end where it is too long
+pub start-place : {text out : List ℕ} {r : Progress} → Start text out r
+    → (r .next ≤ length text) × (r .next < length text → length text ≤ textLimit)
+start-place {text} {r = r} s =
+    lt-cases textLimit (length text)
+    (λ over. let end = rw (lt-ltb textLimit (length text) over) at (s .next) in (omega (arith, end), λ more. absurd (omega (arith, end))))
+    (λ short. let first = rw (le-ltb textLimit (length text) short) at (s .next) in (omega (arith, first), λ more. short))
 
 -- ---- the theorem
 
@@ -100,10 +120,43 @@ sofar text _ _ _ u (piece {bytes} {at} {c} {t} {out = out} {r} w p) =
     ∙ ap (λ (l : List ℕ). bytes ++ l) (p .walked .printed)
     ∙ sofar text bytes at c t w
 
+-- the core goes with the text up to any later place as the unopened core does from the first byte
+alike : (text bytes : List ℕ) (at : ℕ) (c : Control) (t : Tables) → Written text bytes at c t → length text ≤ textLimit
+    → (upto : ℕ) → at ≤ upto
+    → coreBehind (coreOf c t) text at upto ≡ coreBehind unopened text 0 upto
+alike text _ _ _ t (started {out} {r} s room) short upto past =
+    let first : r .next ≡ 0 = rw (le-ltb textLimit (length text) short) at (s .next) in
+    λ i. coreBehind (s .core t .0 i) text (first i) upto
+alike text _ _ _ u (piece {bytes} {at} {c} {t} {out = out} {r} w p) short upto past =
+    p .walked .core upto past ∙ alike text bytes at c t w short upto (omega (arith, p .walked .forth, past))
+
+core : (text bytes : List ℕ) (at : ℕ) (c : Control) (t : Tables) → Written text bytes at c t → length text ≤ textLimit
+    → coreOf c t ≡ coreFrom unopened [] (take at text)
+core text bytes at c t w short =
+    let all : at - 0 ≡ at = omega arith in
+    sym (core-here (coreOf c t) text at) ∙ alike text bytes at c t w short at (omega arith)
+    ∙ ap (λ (n : ℕ). coreFrom unopened [] (take n text)) all
+
+-- a text that is too long is at its end from the start, and stays there
+unread : (text bytes : List ℕ) (at : ℕ) (c : Control) (t : Tables) → Written text bytes at c t → textLimit < length text
+    → (length text ≤ at) × (coreOf c t ≡ unopened)
+unread text _ _ _ t (started {out} {r} s room) over =
+    let end : r .next ≡ length text = rw (lt-ltb textLimit (length text) over) at (s .next) in (omega (arith, end), s .core t .0)
+unread text _ _ _ u (piece {bytes} {at} {c} {t} {out = out} {r} w p) over =
+    let sofar = unread text bytes at c t w over in
+    let same = p .ended (sofar .0) in (
+      omega (arith, sofar .0, p .walked .forth),
+      ap (λ (x : Progress). coreOf (x .control) u) (same .0) ∙ ap (coreOf c) (same .1) ∙ sofar .1,
+    )
+
 pub pieces-printed : PiecesPrinted
 pieces-printed = record {
   sofar = sofar;
   whole = λ text bytes at c t w past.
       sym (append-nil bytes) ∙ ap (λ (l : List ℕ). bytes ++ l) (sym (ahead-none (coreOf c t) text at past))
       ∙ sofar text bytes at c t w;
+  core = core;
+  wholeCore = λ text bytes at c t w short past.
+      core text bytes at c t w short ∙ ap (coreFrom unopened []) (take-all at text past);
+  tooLong = λ text bytes at c t w over. unread text bytes at c t w over .1;
 }

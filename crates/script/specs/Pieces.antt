@@ -5,11 +5,14 @@
 use Prim.Native.Nat.{ℕ, _+_, _≤_, _<_}
 use mathlib.Core.Path.{_≡_}
 use mathlib.Core.List.{List, [], _++_}
+use mathlib.Core.Bool.{cond}
+use lib.Dec.{ltb}
 use lib.ListN.{length, take, drop}
 use Rattle.definitions.specs.State.{Core, unopened}
 use Rattle.grammar.specs.Bytes.{textLimit}
-use Rattle.grammar.specs.Printout.{printedFrom, printout}
+use Rattle.grammar.specs.Printout.{printedFrom, coreFrom, printout}
 use Rattle.printer.specs.Printed.{lineRoom}
+use Rattle.reader.specs.LineSpans.{between}
 use Rattle.tables.specs.declared.Control.{Control}
 use Rattle.tables.specs.Tables.{Tables}
 use Rattle.tables.specs.Meaning.{coreOf}
@@ -20,20 +23,35 @@ use Rattle.script.specs.declared.Progress.{Progress}
 abbrev pub ahead : Core → List ℕ → ℕ → List ℕ
 ahead core text at = printedFrom core [] (drop at text)
 
+-- the core behind a text from a place on, up to another
+abbrev pub coreBehind : Core → List ℕ → ℕ → ℕ → Core
+coreBehind core text at upto = coreFrom core [] (between text at upto)
+
 -- Lines from a place on were printed behind some bytes: control, place and number of bytes are then those of r, the tables are
--- u, and the bytes stand in out.
+-- u, and the bytes stand in out. Up to any place from there on the core goes as the one before does: up to the place itself, it
+-- is the core behind the bytes that were passed.
 pub record Walked (text : List ℕ) (at : ℕ) (c : Control) (t : Tables) (before out : List ℕ) (r : Progress) (u : Tables) : Type 0
   where
     pub printed : take (r .written) out ++ ahead (coreOf (r .control) u) text (r .next) ≡ before ++ ahead (coreOf c t) text at
     pub fits : r .written ≤ length out
+    pub core : (upto : ℕ) → r .next ≤ upto
+        → coreBehind (coreOf (r .control) u) text (r .next) upto ≡ coreBehind (coreOf c t) text at upto
+    pub forth : at ≤ r .next
     pub within : at ≤ length text → r .next ≤ length text
     pub valid : Valid (r .control) u
 
--- A piece: the lines from a place on, until the text ends or the room for a line does; one at least, where both are there.
+-- nothing was done
+abbrev pub Unmoved : ℕ → Control → Tables → Progress → Tables → Type 0
+Unmoved at c t r u = (r ≡ record { control = c; next = at; written = 0 }) × (u ≡ t)
+
+-- A piece: the lines from a place on, until the text ends or the room for a line does; one at least, where both are there, and
+-- nothing is done where one is not.
 pub record Piece (text : List ℕ) (at : ℕ) (c : Control) (t : Tables) (out : List ℕ) (r : Progress) (u : Tables) : Type 0 where
   pub walked : Walked text at c t [] out r u
   pub full : r .next < length text → length out < r .written + lineRoom
   pub onward : at < length text → lineRoom ≤ length out → at < r .next
+  pub bare : length out < lineRoom → Unmoved at c t r u
+  pub ended : length text ≤ at → Unmoved at c t r u
 
 -- Before the first piece: an unopened core at the first byte of the text. Of a "whole text over 60,000 bytes" its only line is
 -- written, for which there has to be room, and the place is behind the text.
@@ -41,8 +59,7 @@ pub record Start (text out : List ℕ) (r : Progress) : Type 0 where
   pub printed : lineRoom ≤ length out → take (r .written) out ++ ahead unopened text (r .next) ≡ printout text
   pub bare : length out < lineRoom → r .written ≡ 0
   pub fits : r .written ≤ length out
-  pub within : r .next ≤ length text
-  pub read : r .next < length text → length text ≤ textLimit
+  pub next : r .next ≡ cond (ltb textLimit (length text)) (length text) 0
   pub core : (t : Tables) → (coreOf (r .control) t ≡ unopened) × Valid (r .control) t
 
 -- Pieces one after the other, each in a buffer of its own: the bytes that were written, and the place, control and tables
@@ -58,7 +75,7 @@ pub data Written (text : List ℕ) : List ℕ → ℕ → Control → Tables →
       → Written text (bytes ++ take (r .written) out) (r .next) (r .control) u
 
 -- Wherever the pieces have come, what was written with what is ahead is the printout; so at the end of the text it is the
--- printout.
+-- printout. The core there is the one behind the bytes so far, and of a text that is too long it is unopened.
 pub record PiecesPrinted : Type 0 where
   pub sofar : (text bytes : List ℕ) (at : ℕ) (c : Control) (t : Tables)
       → Written text bytes at c t
@@ -67,3 +84,16 @@ pub record PiecesPrinted : Type 0 where
       → Written text bytes at c t
       → length text ≤ at
       → bytes ≡ printout text
+  pub core : (text bytes : List ℕ) (at : ℕ) (c : Control) (t : Tables)
+      → Written text bytes at c t
+      → length text ≤ textLimit
+      → coreOf c t ≡ coreFrom unopened [] (take at text)
+  pub wholeCore : (text bytes : List ℕ) (at : ℕ) (c : Control) (t : Tables)
+      → Written text bytes at c t
+      → length text ≤ textLimit
+      → length text ≤ at
+      → coreOf c t ≡ coreFrom unopened [] text
+  pub tooLong : (text bytes : List ℕ) (at : ℕ) (c : Control) (t : Tables)
+      → Written text bytes at c t
+      → textLimit < length text
+      → coreOf c t ≡ unopened

@@ -1,12 +1,18 @@
--- There are pieces as `Pieces` speaks of them: to the end of any text; and, as an example, those of a text of two lines into
--- three buffers. The first has no room for a line, and nothing is written; the second has room for one line; the third is given
--- the rest.
-use Prim.Native.Nat.{ℕ}
+-- There are pieces as `Pieces` speaks of them: to the end of any text that is too long, and of any other if some control and
+-- tables hold the core behind it, as they do behind an open; and, as an example, those of a text of two lines into three
+-- buffers. The first has no room for a line, and nothing is written; the second has room for one line; the third is given the
+-- rest.
+use Prim.Native.Nat.{ℕ, _≤_, _<_}
+use mathlib.Core.Path.{_≡_}
 use mathlib.Core.List.{List, [], _++_}
 use lib.ListN.{length, replicate}
-use Rattle.grammar.specs.Bytes.{bytes}
+use Rattle.definitions.specs.State.{unopened}
+use Rattle.grammar.specs.Bytes.{bytes, textLimit}
+use Rattle.grammar.specs.Printout.{coreFrom}
 use Rattle.tables.specs.declared.Control.{Control}
 use Rattle.tables.specs.Tables.{Tables}
+use Rattle.tables.specs.Meaning.{coreOf}
+use Rattle.tables.specs.Invariant.{Valid}
 use Rattle.script.specs.declared.Progress.{Progress}
 use Rattle.script.specs.Pieces.{Start, Piece, Written}
 
@@ -26,6 +32,16 @@ pub record ThreePieces (c : Control) (t : Tables) : Type 0 where
   pub line : Piece twoLines 0 c t (buffer (bytes "(refused 19)\n")) (progress c 7 13) t
   pub rest : Piece twoLines 7 c t (buffer (bytes "(refused 16)\n")) (progress c 15 13) t
 
+-- some control and tables hold the core behind a text
+abbrev pub Held : List ℕ → Type 0
+Held text = (c : Control) × (t : Tables) × Valid c t × (coreOf c t ≡ coreFrom unopened [] text)
+
+-- there are pieces to the end of a text
+abbrev pub Ended : List ℕ → Type 0
+Ended text = (bytes : List ℕ) × (c : Control) × (t : Tables) × Written text bytes (length text) c t
+
 pub record PiecesExist : Type 0 where
-  pub anyText : (text : List ℕ) → (bytes : List ℕ) × (c : Control) × (t : Tables) × Written text bytes (length text) c t
+  pub tooLong : (text : List ℕ) → textLimit < length text → Ended text
+  pub read : (text : List ℕ) → length text ≤ textLimit → Held text → Ended text
+  pub held : Held (bytes "(open 50 1 7)\n")
   pub example : (c : Control) × (t : Tables) × ThreePieces c t

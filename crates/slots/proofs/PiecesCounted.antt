@@ -13,7 +13,7 @@ use Rattle.tables.specs.Tables.{Tables}
 use Rattle.tables.specs.Invariant.{Valid}
 use Rattle.script.specs.declared.Progress.{Progress}
 use Rattle.script.specs.Pieces.{Start, Piece, Written, started, piece}
-use Rattle.script.proofs.PiecesPrinted.{pieces-printed}
+use Rattle.script.proofs.PiecesPrinted.{start-place, pieces-printed}
 use Rattle.slots.specs.Writing.{pieceRoom}
 
 pub record Counted (text out : List ℕ) (c : Control) (t : Tables) (at written total : ℕ) : Type 0 where
@@ -35,8 +35,8 @@ counted-first {out = out} {r} s room t = record {
   count = sym (length-take-le (r .written) out (s .fits));
   room = room;
   fits = s .fits;
-  within = s .within;
-  read = s .read;
+  within = start-place s .0;
+  read = start-place s .1;
   valid = s .core t .1;
   few = omega (arith, s .fits);
 }
