@@ -1,5 +1,5 @@
 -- "Each line prints one line" (paper 01, "Script and printout"). The printout is written in pieces, each of whole lines, into
--- buffers of any length. What a piece wrote, and behind it what the core after it prints for the rest of the text, is what the
+-- buffers of any length, the first with room for a line. What a piece wrote, and behind it what the core after it prints for the rest of the text, is what the
 -- core before it prints for the text from its place on. `PiecesPrinted` says that the pieces, one behind the other, are the
 -- printout.
 use Prim.Native.Nat.{ℕ, _+_, _≤_, _<_}

@@ -19,7 +19,7 @@ use Rattle.script.specs.Pieces.{Start, Piece, Written}
 abbrev pub twoLines : List ℕ
 twoLines = bytes "(tick)\n(leave 5"
 
--- a buffer of 64 bytes behind a line of thirteen
+-- a buffer of 64 bytes that begins with a line of thirteen
 abbrev pub buffer : List ℕ → List ℕ
 buffer line = line ++ replicate 51 0
 
