@@ -1,4 +1,4 @@
--- `slot::refill_each` meets its contract: its loop is the sweep of Sweeping. Assumes nothing.
+-- `slot::refill_each` meets its contract: its loop is the sweep of RefillEach. Assumes nothing.
 use borrow.Author.Needs.{needs}
 use native.Mathlib.Omega.{arith}
 use Prim.Native.Nat.{_≤_, _<_, _-_}

@@ -1,4 +1,4 @@
--- `slot::refill_marked` meets its contract: its loop is the walk of Filling. The measure is the word, which falls with each
+-- `slot::refill_marked` meets its contract: its loop is the walk of RefillMarked. The measure is the word, which falls with each
 -- mark. Assumes nothing.
 use Prim.Native.Nat.{_<_}
 use borrow.Author.Needs.{needs}

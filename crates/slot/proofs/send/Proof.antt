@@ -1,4 +1,4 @@
--- `slot::send` meets its contract: each way through it is a law of Sending. Assumes nothing.
+-- `slot::send` meets its contract: each way through it is a law of PacketSent or DummySent. Assumes nothing.
 use borrow.Author.Needs.{needs}
 use native.Mathlib.Omega.{arith}
 use mathlib.Core.Path.{sym, _∙_}

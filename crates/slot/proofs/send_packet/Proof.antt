@@ -1,4 +1,4 @@
--- `slot::send_packet` meets its contract: it is the law of Sending, at what its callees give. Assumes nothing.
+-- `slot::send_packet` meets its contract: it is the law of PacketSent, at what its callees give. Assumes nothing.
 use borrow.Author.Needs.{needs}
 use native.Mathlib.Omega.{arith}
 use Rattle.definitions.specs.Sizes.{ids, places}

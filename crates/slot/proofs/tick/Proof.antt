@@ -1,4 +1,4 @@
--- `slot::tick` meets its contract: an unopened core refuses it, and else it is the slot of Ticking. Assumes nothing.
+-- `slot::tick` meets its contract: an unopened core refuses it, and else it is the slot of WholeTick. Assumes nothing.
 use borrow.Author.Needs.{needs}
 use mathlib.Core.Path.{refl}
 use borrow.Author.Tests.{not-true, not-false}
