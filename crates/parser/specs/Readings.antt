@@ -10,7 +10,7 @@ use Rattle.grammar.specs.declared.Call.{Call}
 use Rattle.grammar.specs.declared.Line.{Line}
 use Rattle.grammar.specs.declared.Line.the-variants.{Form, Refused}
 use Rattle.grammar.specs.Templates.{isGap, limitOf, limits, gaps, numbersFit, matched}
-use Rattle.grammar.specs.Grammar.{termsForms, parsedBy}
+use Rattle.grammar.specs.Grammar.{behindText, termsForms, parsedBy}
 use Rattle.parser.specs.declared.Gap.{Gap}
 use Rattle.parser.specs.declared.Terms.{Terms}
 use Rattle.parser.specs.Texts.{plain}
@@ -60,3 +60,8 @@ termsLine call terms =
 -- what stands behind the text of a join and of a change, whichever call it is
 abbrev pub TermsRead : List ℕ → Terms → Type 0
 TermsRead rest terms = (call : ℕ → ℕ → ℕ → ℕ → Call) → parsedBy (termsForms call) rest ≡ termsLine call terms
+
+-- and a whole line that begins with such a text
+abbrev pub TermsBehind : List ℕ → List ℕ → Terms → Type 0
+TermsBehind text line terms =
+    (call : ℕ → ℕ → ℕ → ℕ → Call) → parsedBy (behindText text (termsForms call)) line ≡ termsLine call terms

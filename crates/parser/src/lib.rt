@@ -9,15 +9,15 @@ use definitions::Packet;
 use grammar::Call;
 use grammar::Line;
 ghost use mathlib.Core.Path.{_≡_};
-ghost use mathlib.Core.Bool.{_||_};
+ghost use mathlib.Core.Bool.{true, _||_};
 ghost use Prim.Native.Nat.{_<_};
 ghost use mathlib.Core.List.{_++_};
 ghost use lib.ListN.{drop};
 ghost use Rattle.grammar.specs.Grammar.{openForms, joinForms, changeForms, leaveForms, loadForms, arriveForms, tickForms};
 ghost use Rattle.grammar.specs.Grammar.{parsedBy, parsed};
 ghost use Rattle.parser.specs.Numbers.{byteOf, digitOf, spelled, Grows, Exceeds, Spells};
-ghost use Rattle.parser.specs.Readings.{gapOf, Room, Readable, Reads, noTerms, TermsRead};
-ghost use Rattle.parser.specs.Texts.{starts};
+ghost use Rattle.parser.specs.Readings.{gapOf, Room, Readable, Reads, noTerms, TermsRead, TermsBehind};
+ghost use Rattle.parser.specs.Texts.{starts, plain};
 ghost use Rattle.parser.specs.Words.{wordOf};
 
 // What stands where a line has no byte, and where it has no digit.
@@ -373,14 +373,21 @@ fn read_terms(line: &[u8], from: usize) -> Terms
     }
 }
 
+// The terms of a call whose line begins with a text.
+fn terms_behind(line: &[u8], text: &[u8]) -> Terms
+    requires { ⌜ plain (now text) ≡ true ⌝ }
+    ensures { λ r. ⌜ TermsBehind (now (text .entry)) (now (line .entry)) r ⌝ }
+{
+    if !starts(line, text) {
+        return no_terms(NO_FORM);
+    }
+    read_terms(line, text.len())
+}
+
 fn parse_join(line: &[u8]) -> Line
     ensures { λ r. ⌜ r ≡ parsedBy joinForms (now (line .entry)) ⌝ }
 {
-    let text = b"(join ";
-    if !starts(line, text) {
-        return Line::Refused { number: NO_FORM };
-    }
-    let terms = read_terms(line, text.len());
+    let terms = terms_behind(line, b"(join ");
     if terms.refused != FITS {
         return Line::Refused {
             number: terms.refused,
@@ -399,11 +406,7 @@ fn parse_join(line: &[u8]) -> Line
 fn parse_change(line: &[u8]) -> Line
     ensures { λ r. ⌜ r ≡ parsedBy changeForms (now (line .entry)) ⌝ }
 {
-    let text = b"(change ";
-    if !starts(line, text) {
-        return Line::Refused { number: NO_FORM };
-    }
-    let terms = read_terms(line, text.len());
+    let terms = terms_behind(line, b"(change ");
     if terms.refused != FITS {
         return Line::Refused {
             number: terms.refused,
