@@ -17,7 +17,7 @@ ghost use Rattle.tables.specs.Tables.{Tables, tables};
 ghost use Rattle.tables.specs.Meaning.{coreOf};
 ghost use Rattle.tables.specs.Invariant.{Valid};
 ghost use Rattle.tables.specs.Numbers.{firstFailed};
-ghost use Rattle.tables.specs.Promise.{Meets};
+ghost use Rattle.tables.specs.Places.{Promised};
 
 // The control of a core before any open, whatever its tables hold.
 pub fn unopened() -> Control
@@ -83,7 +83,7 @@ pub fn open(
     seed: u32,
 ) -> Answered
     requires { ⌜ Valid control (tables (now terms) (now stocks) (now handles) (now lengths) (now links)) ⌝ }
-    ensures { λ r. ⌜ Meets (Open threshold discipline seed) control
+    ensures { λ r. ⌜ Promised (Open threshold discipline seed) control
         (tables (now (terms .entry)) (now (stocks .entry)) (now (handles .entry)) (now (lengths .entry)) (now (links .entry))) r
         (tables (now (terms .exit)) (now (stocks .exit)) (now (handles .exit)) (now (lengths .exit)) (now (links .exit))) ⌝ }
 {

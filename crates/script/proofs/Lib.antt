@@ -3,3 +3,5 @@ pub mod LineWalked
 pub mod GoingOn
 pub mod PiecesPrinted
 pub mod PiecesExample
+pub mod UnseenPieces
+pub mod UnseenExample

@@ -17,7 +17,7 @@ ghost use Rattle.printer.specs.Printed.{lineRoom};
 ghost use Rattle.reader.specs.LineSpans.{isEnd};
 ghost use Rattle.tables.specs.Tables.{tables};
 ghost use Rattle.tables.specs.Invariant.{Valid};
-ghost use Rattle.tables.specs.Promise.{Meets};
+ghost use Rattle.tables.specs.Places.{Promised};
 ghost use Rattle.script.specs.UnreadLine.{unreadNumber};
 ghost use Rattle.script.specs.Pieces.{Walked, Piece, Start};
 
@@ -47,7 +47,7 @@ pub fn perform(
     call: Call,
 ) -> Answered
     requires { ⌜ Valid control (tables (now terms) (now stocks) (now handles) (now lengths) (now links)) ⌝ }
-    ensures { λ r. ⌜ Meets (eventOf call) control
+    ensures { λ r. ⌜ Promised (eventOf call) control
         (tables (now (terms .entry)) (now (stocks .entry)) (now (handles .entry)) (now (lengths .entry)) (now (links .entry))) r
         (tables (now (terms .exit)) (now (stocks .exit)) (now (handles .exit)) (now (lengths .exit)) (now (links .exit))) ⌝ }
 {

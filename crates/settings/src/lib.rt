@@ -34,7 +34,7 @@ ghost use Rattle.tables.specs.Controls.{withRates};
 ghost use Rattle.tables.specs.Meaning.{kindAt};
 ghost use Rattle.tables.specs.Invariant.{Valid};
 ghost use Rattle.tables.specs.Numbers.{firstFailed, refusal};
-ghost use Rattle.tables.specs.Promise.{Meets};
+ghost use Rattle.tables.specs.Places.{Promised};
 ghost use Rattle.settings.specs.Writes.{Room, Ready, withTerms, retunedLevel, ratesAfter, withBare};
 ghost use Rattle.settings.specs.Writes.{Remarked, Recast, Quiet, Withdrawn, Withdraws, Empties};
 
@@ -281,9 +281,9 @@ pub fn join(
     burst: u32,
 ) -> Answered
     requires { ⌜ Valid control (tables (now terms) (now stocks) (now handles) (now lengths) (now links)) ⌝ }
-    ensures { λ r. ⌜ Meets (Join id kind rate burst) control
+    ensures { λ r. ⌜ Promised (Join id kind rate burst) control
         (tables (now (terms .entry)) (now (stocks .entry)) (now (handles .entry)) (now (lengths .entry)) (now (links .entry))) r
-        (tables (now (terms .exit)) (now (stocks .exit)) (now (handles .entry)) (now (lengths .entry)) (now (links .entry))) ⌝ }
+        (tables (now (terms .exit)) (now (stocks .exit)) (now (handles .exit)) (now (lengths .exit)) (now (links .exit))) ⌝ }
 {
     let number = join_number(control, id, kind, rate, burst);
     if number != 0 {
@@ -308,9 +308,9 @@ pub fn change(
     burst: u32,
 ) -> Answered
     requires { ⌜ Valid control (tables (now terms) (now stocks) (now handles) (now lengths) (now links)) ⌝ }
-    ensures { λ r. ⌜ Meets (Change id kind rate burst) control
+    ensures { λ r. ⌜ Promised (Change id kind rate burst) control
         (tables (now (terms .entry)) (now (stocks .entry)) (now (handles .entry)) (now (lengths .entry)) (now (links .entry))) r
-        (tables (now (terms .exit)) (now (stocks .exit)) (now (handles .entry)) (now (lengths .entry)) (now (links .exit))) ⌝ }
+        (tables (now (terms .exit)) (now (stocks .exit)) (now (handles .exit)) (now (lengths .exit)) (now (links .exit))) ⌝ }
 {
     let number = change_number(control, terms, id, kind, rate, burst);
     if number != 0 {
@@ -334,9 +334,9 @@ pub fn leave(
     id: u32,
 ) -> Answered
     requires { ⌜ Valid control (tables (now terms) (now stocks) (now handles) (now lengths) (now links)) ⌝ }
-    ensures { λ r. ⌜ Meets (Leave id) control
+    ensures { λ r. ⌜ Promised (Leave id) control
         (tables (now (terms .entry)) (now (stocks .entry)) (now (handles .entry)) (now (lengths .entry)) (now (links .entry))) r
-        (tables (now (terms .exit)) (now (stocks .exit)) (now (handles .entry)) (now (lengths .entry)) (now (links .exit))) ⌝ }
+        (tables (now (terms .exit)) (now (stocks .exit)) (now (handles .exit)) (now (lengths .exit)) (now (links .exit))) ⌝ }
 {
     let number = tables::active_number(control, id);
     if number != 0 {

@@ -36,7 +36,7 @@ ghost use Rattle.order.specs.Order.{sentinel, Sound};
 ghost use Rattle.tables.specs.Tables.{tables, headAt, countAt};
 ghost use Rattle.tables.specs.Meaning.{packetAt, stateOf, coreOf};
 ghost use Rattle.tables.specs.Invariant.{SoundCore, Valid};
-ghost use Rattle.tables.specs.Promise.{Meets};
+ghost use Rattle.tables.specs.Places.{Promised};
 ghost use Rattle.slot.specs.Turns.{Chosen, DrawnAmong, HeldByBoth, SoundWith};
 ghost use Rattle.slot.specs.Sends.{Settled, popped, Unlinked, SomeSender, Spends};
 ghost use Rattle.slot.specs.Slots.{SomeDue, Does};
@@ -340,10 +340,10 @@ pub fn tick(
     links: &mut [u32; LINKS],
 ) -> Ticked
     requires { ⌜ Valid control (tables (now terms) (now stocks) (now handles) (now lengths) (now links)) ⌝ }
-    ensures { λ r. ⌜ Meets Tick control
+    ensures { λ r. ⌜ Promised Tick control
         (tables (now (terms .entry)) (now (stocks .entry)) (now (handles .entry)) (now (lengths .entry)) (now (links .entry)))
         (r .answered)
-        (tables (now (terms .exit)) (now (stocks .exit)) (now (handles .entry)) (now (lengths .entry)) (now (links .exit))) ⌝ }
+        (tables (now (terms .exit)) (now (stocks .exit)) (now (handles .exit)) (now (lengths .exit)) (now (links .exit))) ⌝ }
     ensures { λ r. ⌜ drawsTold (r .sample) ≡ drawsOf (coreOf control
         (tables (now (terms .entry)) (now (stocks .entry)) (now (handles .entry)) (now (lengths .entry)) (now (links .entry)))) ⌝ }
 {

@@ -8,3 +8,4 @@ pub mod QueueRing
 pub mod Touch
 pub mod PoolWritten
 pub mod Runs
+pub mod UnusedPlaces

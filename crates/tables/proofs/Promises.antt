@@ -13,7 +13,7 @@ use Rattle.definitions.specs.State.{State, Core, running, unopened}
 use Rattle.definitions.specs.Checks.{Result, Check, accepted, refused, checked, unchanged}
 use Rattle.definitions.specs.Core.{step}
 use Rattle.definitions.specs.Limits.{StateLimits, CoreLimits}
-use Rattle.definitions.proofs.Laws.Tests.{T-and}
+use Rattle.definitions.proofs.Laws.Tests.{true-false, T-and}
 use Rattle.definitions.proofs.Laws.Checked.{Passed}
 use Rattle.definitions.proofs.Limits.{step-limits}
 use Rattle.tables.specs.declared.Control.{Control}
@@ -23,6 +23,7 @@ use Rattle.tables.specs.Meaning.{stateOf, coreOf}
 use Rattle.tables.specs.Invariant.{Shape, SoundCore, Valid}
 use Rattle.tables.specs.Numbers.{firstFailed, refusal}
 use Rattle.tables.specs.Promise.{Meets}
+use Rattle.tables.specs.Places.{writesPlaces, Promised}
 
 -- no check has the number 0
 abbrev pub numbered : List Check → Bool
@@ -167,3 +168,16 @@ module _ (call : Event) (k : Checking call) (c : Control) (t : Tables) (valid : 
     pub accepted-with : (r : Answered) (d : Control) (u : Tables) → r ≡ record { control = d; answer = Accepted }
         → d .opened ≡ true → stateOf d u ≡ k .made (stateOf c t) → Shape d u → Meets call c t r u
     accepted-with r d u e o same shape = rw e (accepted-meets d u o same shape)
+
+-- a call that writes no place
+pub in-place : {call : Event} {c : Control} {t u : Tables} {r : Answered} → u .handles ≡ t .handles → u .lengths ≡ t .lengths
+    → Meets call c t r u → Promised call c t r u
+in-place handles lengths m = record { meets = m; stand = λ none. record { handles = handles; lengths = lengths } }
+
+-- and one that does, once it is accepted
+pub with-places : {call : Event} {c d : Control} {t u : Tables} {r : Answered} → r ≡ record { control = d; answer = Accepted }
+    → writesPlaces call Accepted ≡ true → Meets call c t r u → Promised call c t r u
+with-places {call} e some m = record {
+  meets = m;
+  stand = λ none. true-false (ap (λ (x : Answered). writesPlaces call (x .answer)) e ∙ some) none;
+}

@@ -1,4 +1,5 @@
--- What the tables of the core mean, when they are valid, what each call promises, and what is claimed of runs of calls.
+-- What the tables of the core mean, when they are valid, what each call promises, and what is claimed of runs of calls and of places
+-- where no packet waits.
 pub mod Tables
 pub mod Controls
 pub mod Meaning
@@ -6,3 +7,5 @@ pub mod Invariant
 pub mod Numbers
 pub mod Promise
 pub mod Run
+pub mod Places
+pub mod Unseen

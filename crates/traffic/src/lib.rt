@@ -25,7 +25,7 @@ ghost use Rattle.definitions.specs.Checks.{loadChecks, arriveChecks};
 ghost use Rattle.tables.specs.Tables.{tables, levelColumn, countColumn, written, levelAt, headAt, countAt};
 ghost use Rattle.tables.specs.Invariant.{Valid};
 ghost use Rattle.tables.specs.Numbers.{refusal};
-ghost use Rattle.tables.specs.Promise.{Meets};
+ghost use Rattle.tables.specs.Places.{Promised};
 
 // The number that a load is refused with: 19, 4, 5, 11, 12.
 fn load_number(control: Control, stocks: &[u32; STOCKS], id: u32, dummies: u32) -> u32
@@ -57,9 +57,9 @@ pub fn load(
     dummies: u32,
 ) -> Answered
     requires { ⌜ Valid control (tables (now terms) (now stocks) (now handles) (now lengths) (now links)) ⌝ }
-    ensures { λ r. ⌜ Meets (Load id dummies) control
+    ensures { λ r. ⌜ Promised (Load id dummies) control
         (tables (now (terms .entry)) (now (stocks .entry)) (now (handles .entry)) (now (lengths .entry)) (now (links .entry))) r
-        (tables (now (terms .entry)) (now (stocks .exit)) (now (handles .entry)) (now (lengths .entry)) (now (links .entry))) ⌝ }
+        (tables (now (terms .exit)) (now (stocks .exit)) (now (handles .exit)) (now (lengths .exit)) (now (links .exit))) ⌝ }
 {
     let number = load_number(control, stocks, id, dummies);
     if number != 0 {
@@ -158,7 +158,7 @@ pub fn arrive(
     packet: Packet,
 ) -> Answered
     requires { ⌜ Valid control (tables (now terms) (now stocks) (now handles) (now lengths) (now links)) ⌝ }
-    ensures { λ r. ⌜ Meets (Arrive id packet) control
+    ensures { λ r. ⌜ Promised (Arrive id packet) control
         (tables (now (terms .entry)) (now (stocks .entry)) (now (handles .entry)) (now (lengths .entry)) (now (links .entry))) r
         (tables (now (terms .exit)) (now (stocks .exit)) (now (handles .exit)) (now (lengths .exit)) (now (links .exit))) ⌝ }
 {

@@ -1,12 +1,14 @@
 -- `opening::open` meets its contract: it is refused with the first number that fails, and else fills the tables.
 -- Assumes nothing.
 use borrow.Author.Needs.{needs}
-use mathlib.Core.Path.{sym, ap, _∙_}
+use mathlib.Core.Path.{refl, sym, ap, _∙_}
 use Rattle.definitions.specs.Sizes.{ids, places}
 use Rattle.order.specs.Order.{sentinel, linkCount}
 use Rattle.tables.specs.declared.Control.{Control}
 use Rattle.tables.specs.declared.Answered.{Answered}
 use Rattle.definitions.specs.declared.Answer.the-variants.{Accepted}
+use Rattle.definitions.specs.Answers.{isAccepted}
+use Rattle.tables.proofs.Promises.{in-place, with-places}
 use Rattle.opening.proofs.OpenPromise.{open-refused, open-accepted}
 use Rattle.opening.proofs.open.Statement.{statement}
 use Rattle.opening.proofs.open.Tie as tie
@@ -20,8 +22,9 @@ refused-requires c κs = search needs
 returns : tie.Need-returns
 returns c =
     let start = c .before .before .before in
-    open-refused (start .args .control) _ (start .pre) (start .args .threshold) (start .args .discipline) (start .args .seed)
-    (c .refused .result) _ (c .refused .ensures) (c .before .before .open-number .ensures) (c .before .if1 .taken)
+    in-place refl refl
+    (open-refused (start .args .control) _ (start .pre) (start .args .threshold) (start .args .discipline) (start .args .seed)
+    (c .refused .result) _ (c .refused .ensures) (c .before .before .open-number .ensures) (c .before .if1 .taken))
 
 control-of-requires : tie.Need-control-of-requires
 control-of-requires c κs = search needs
@@ -34,14 +37,15 @@ abbrev accepting : Control → Answered
 accepting d = record { control = d; answer = Accepted }
 
 returns-2 : tie.Need-returns-2
-unfolding ids places sentinel linkCount
+unfolding ids places sentinel linkCount isAccepted
 returns-2 c =
     let e = c .before .before .before .before .before .before .before in
     let start = e .before .before in
-    open-accepted (start .args .control) _ (start .pre) (start .args .threshold) (start .args .discipline) (start .args .seed)
+    with-places (c .accepted .ensures) refl
+    (open-accepted (start .args .control) _ (start .pre) (start .args .threshold) (start .args .discipline) (start .args .seed)
     (c .accepted .result)
     (c .accepted .ensures ∙ ap accepting (c .before .control-of .ensures))
-    (sym (e .before .open-number .ensures) ∙ e .if1 .left)
+    (sym (e .before .open-number .ensures) ∙ e .if1 .left))
 
 pub open-spec : {M : Type 1} → statement M
 open-spec =

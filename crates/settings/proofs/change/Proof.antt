@@ -1,7 +1,8 @@
 -- `settings::change` meets its contract: it is refused with the first number that fails; else the client is retuned where its
 -- kind stays, and emptied and placed anew where it differs. Assumes nothing.
 use borrow.Author.Needs.{needs}
-use mathlib.Core.Path.{sym, _∙_}
+use mathlib.Core.Path.{refl, sym, _∙_}
+use Rattle.tables.proofs.Promises.{in-place}
 use Rattle.settings.proofs.ChangePromise.{change-others, change-refused, change-active, change-room, change-ready}
 use Rattle.settings.proofs.ChangePromise.{change-room-bare, change-retuned, change-placed}
 use Rattle.settings.proofs.change.Statement.{statement}
@@ -20,8 +21,9 @@ returns : tie.Need-returns
 returns c =
     let start = c .before .before .before .before in
     let a = start .args in
-    change-refused (a .control) _ (start .pre) (a .id) (a .kind) (a .rate) (a .burst) (c .refused .result) _
-    (c .refused .ensures) (c .before .before .change-number .ensures _ _ _ _ (start .pre)) (c .before .if1 .taken)
+    in-place refl refl
+    (change-refused (a .control) _ (start .pre) (a .id) (a .kind) (a .rate) (a .burst) (c .refused .result) _
+    (c .refused .ensures) (c .before .before .change-number .ensures _ _ _ _ (start .pre)) (c .before .if1 .taken))
 
 keeps-kind-requires : tie.Need-keeps-kind-requires
 keeps-kind-requires c κs =
@@ -49,9 +51,10 @@ returns-2 c =
     let start = e .before .before .before in
     let a = start .args in
     let none = sym (e .before .change-number .ensures _ _ _ _ (start .pre)) ∙ e .if1 .left in
-    rw (p .ensures .1)
+    in-place refl refl
+    (rw (p .ensures .1)
     (change-retuned (a .control) _ (start .pre) (a .id) (a .kind) (a .rate) (a .burst) none
-    (sym (f .before .keeps-kind .ensures) ∙ f .if2 .taken) (c .accepted .result) (rw (p .ensures .0) at (c .accepted .ensures)))
+    (sym (f .before .keeps-kind .ensures) ∙ f .if2 .taken) (c .accepted .result) (rw (p .ensures .0) at (c .accepted .ensures))))
 
 empty-requires : tie.Need-empty-requires
 empty-requires c κs =
@@ -83,10 +86,11 @@ returns-3 c =
     let start = e .before .before .before in
     let a = start .args in
     let none = sym (e .before .change-number .ensures _ _ _ _ (start .pre)) ∙ e .if1 .left in
-    rw (p .ensures .1)
+    in-place refl refl
+    (rw (p .ensures .1)
     (change-placed (a .control) _ (start .pre) (a .id) (a .kind) (a .rate) (a .burst) none
     (q .result) _ _ (q .ensures) (p .result) (p .ensures .0)
-    (sym (f .before .keeps-kind .ensures) ∙ f .if2 .left) (c .accepted2 .result) (c .accepted2 .ensures))
+    (sym (f .before .keeps-kind .ensures) ∙ f .if2 .left) (c .accepted2 .result) (c .accepted2 .ensures)))
 
 pub change-spec : {M : Type 1} → statement M
 change-spec =

@@ -1,7 +1,8 @@
 -- `settings::join` meets its contract: it is refused with the first number that fails, and else places the client.
 -- Assumes nothing.
 use borrow.Author.Needs.{needs}
-use mathlib.Core.Path.{sym, _∙_}
+use mathlib.Core.Path.{refl, sym, _∙_}
+use Rattle.tables.proofs.Promises.{in-place}
 use Rattle.settings.proofs.JoinPromise.{join-refused, join-below, join-room, join-accepted}
 use Rattle.settings.proofs.join.Statement.{statement}
 use Rattle.settings.proofs.join.Tie as tie
@@ -16,8 +17,9 @@ returns : tie.Need-returns
 returns c =
     let start = c .before .before .before in
     let a = start .args in
-    join-refused (a .control) _ (start .pre) (a .id) (a .kind) (a .rate) (a .burst) (c .refused .result) _
-    (c .refused .ensures) (c .before .before .join-number .ensures _ (start .pre)) (c .before .if1 .taken)
+    in-place refl refl
+    (join-refused (a .control) _ (start .pre) (a .id) (a .kind) (a .rate) (a .burst) (c .refused .result) _
+    (c .refused .ensures) (c .before .before .join-number .ensures _ (start .pre)) (c .before .if1 .taken))
 
 clear-requires : tie.Need-clear-requires
 clear-requires c κs =
@@ -47,10 +49,11 @@ returns-2 c =
     let start = e .before .before in
     let a = start .args in
     let none = sym (e .before .join-number .ensures _ (start .pre)) ∙ e .if1 .left in
-    rw (p .ensures .1, q .ensures .1)
+    in-place refl refl
+    (rw (p .ensures .1, q .ensures .1)
     (join-accepted (a .control) _ (start .pre) (a .id) (a .kind) (a .rate) (a .burst)
     none (q .result) (q .ensures .0) (p .result) (p .ensures .0)
-    (c .accepted .result) (c .accepted .ensures))
+    (c .accepted .result) (c .accepted .ensures)))
 
 pub join-spec : {M : Type 1} → statement M
 join-spec =

@@ -1,8 +1,9 @@
 -- `settings::leave` meets its contract: it is refused with the first number that fails, and else empties the id and puts
 -- nobody in its place. Assumes nothing.
 use borrow.Author.Needs.{needs}
-use mathlib.Core.Path.{sym, _∙_}
+use mathlib.Core.Path.{refl, sym, _∙_}
 use Rattle.definitions.specs.Checks.{leaveChecks}
+use Rattle.tables.proofs.Promises.{in-place}
 use Rattle.settings.proofs.LeavePromise.{leave-refused, leave-ready, leave-room, leave-accepted}
 use Rattle.settings.proofs.leave.Statement.{statement}
 use Rattle.settings.proofs.leave.Tie as tie
@@ -18,8 +19,9 @@ unfolding leaveChecks
 returns c =
     let start = c .before .before .before in
     let a = start .args in
-    leave-refused (a .control) _ (start .pre) (a .id) (c .refused .result) _ (c .refused .ensures)
-    (c .before .before .active-number .ensures _) (c .before .if1 .taken)
+    in-place refl refl
+    (leave-refused (a .control) _ (start .pre) (a .id) (c .refused .result) _ (c .refused .ensures)
+    (c .before .before .active-number .ensures _) (c .before .if1 .taken))
 
 empty-requires : tie.Need-empty-requires
 unfolding leaveChecks
@@ -51,9 +53,10 @@ returns-2 c =
     let start = e .before .before in
     let a = start .args in
     let none = sym (e .before .active-number .ensures _) ∙ e .if1 .left in
-    rw (p .ensures .1)
+    in-place refl refl
+    (rw (p .ensures .1)
     (leave-accepted (a .control) _ (start .pre) (a .id) none
-    (q .result) _ _ (q .ensures) (p .result) (p .ensures .0) (c .accepted .result) (c .accepted .ensures))
+    (q .result) _ _ (q .ensures) (p .result) (p .ensures .0) (c .accepted .result) (c .accepted .ensures)))
 
 pub leave-spec : {M : Type 1} → statement M
 leave-spec =

@@ -2,6 +2,7 @@
 use borrow.Author.Needs.{needs}
 use mathlib.Core.Path.{refl}
 use borrow.Author.Tests.{not-true, not-false}
+use Rattle.tables.proofs.Promises.{in-place}
 use Rattle.slot.proofs.WholeTick.{tick-refused, undrawn-draws, turn-draws, done-refillable, tick-done}
 use Rattle.slot.proofs.tick.Statement.{statement}
 use Rattle.slot.proofs.tick.Tie as tie
@@ -17,7 +18,7 @@ returns c =
     let said = c .before in
     let start = said .before .before .before in
     let shut = not-true (start .args .control .opened) (said .before .if1 .taken) in (
-      tick-refused _ _ (start .pre) shut (said .refused .result) (said .refused .ensures),
+      in-place refl refl (tick-refused _ _ (start .pre) shut (said .refused .result) (said .refused .ensures)),
       undrawn-draws _ _ (start .pre) shut (c .undrawn .ensures),
     )
 
@@ -51,7 +52,7 @@ returns-2 c =
     let turn = spent .before .before .before .before .turn in
     let chosen = turn .ensures _ _ _ (valid ready) in
     let done = spent .spend .ensures _ (record { core = valid ready; chosen = chosen }) in (
-      tick-done _ _ valid ready (spent .spend .result) _ done _ (c .before .refill-all .ensures) _ refl,
+      in-place refl refl (tick-done _ _ valid ready (spent .spend .result) _ done _ (c .before .refill-all .ensures) _ refl),
       turn-draws _ _ valid ready (turn .result) chosen,
     )
 

@@ -2,16 +2,18 @@
 -- paid and put into the order as ArrivedTables says. Assumes nothing.
 use borrow.Author.Needs.{needs}
 use Prim.Native.Nat.{_<_}
-use mathlib.Core.Path.{_≡_, sym, _∙_}
+use mathlib.Core.Path.{_≡_, refl, sym, _∙_}
 use mathlib.Core.Logic.{⊎-elim}
 use Rattle.definitions.specs.Sizes.{ids, places}
 use Rattle.definitions.specs.Client.{isIndifferent}
+use Rattle.definitions.specs.Answers.{isAccepted}
 use Rattle.definitions.specs.Checks.{arriveChecks}
 use Rattle.tables.specs.Tables.{Tables, tables, countAt}
 use Rattle.tables.specs.Meaning.{kindAt}
 use Rattle.tables.specs.Invariant.{Shape}
 use Rattle.tables.specs.Numbers.{refusal}
 use Rattle.tables.proofs.MarkedKinds.{kind-indifferent}
+use Rattle.tables.proofs.Promises.{in-place, with-places}
 use Rattle.traffic.proofs.ArrivedTables.{place-stored, chargedTerms, Lined}
 use Rattle.traffic.proofs.ArrivePromise.{lined-private, lined-indifferent, arrive-refused, arrive-accepted}
 use Rattle.traffic.proofs.ArrivePromise.{arrive-sound, arrive-below, arrive-room, arrive-paid}
@@ -27,8 +29,9 @@ refused-requires c κs = search needs
 returns : tie.Need-returns
 returns c =
     let start = c .before .before .before .before .before in
-    arrive-refused (start .args .control) _ (start .pre) (start .args .id) (start .args .packet) (c .refused .result) _
-    (c .refused .ensures) (c .before .before .arrive-number .ensures _ _ _) (c .before .if1 .taken)
+    in-place refl refl
+    (arrive-refused (start .args .control) _ (start .pre) (start .args .id) (start .args .packet) (c .refused .result) _
+    (c .refused .ensures) (c .before .before .arrive-number .ensures _ _ _) (c .before .if1 .taken))
 
 -- what is known where no check failed
 abbrev entry : tie.Else1 → Tables
@@ -125,6 +128,7 @@ accepted-requires : tie.Need-accepted-requires
 accepted-requires c κs = search needs
 
 returns-2 : tie.Need-returns-2
+unfolding isAccepted
 returns-2 c =
     let join = c .before .before in
     let e = join .before .before .before .before .before .before .before .before .before in
@@ -132,10 +136,11 @@ returns-2 c =
     let kept = join .before .before .before .before .keep in
     let free = join .before .before .before .before .before .before .before .free-place in
     let counted = join .before .before .count-up in
-    rw (met join .0, counted .ensures, kept .ensures .0, kept .ensures .1, free .ensures)
+    with-places (c .accepted .ensures) refl
+    (rw (met join .0, counted .ensures, kept .ensures .0, kept .ensures .1, free .ensures)
     (arrive-accepted (start .args .control) (entry e) (start .pre) (start .args .id) (start .args .packet) (none e)
     (join .if2 .links) (c .before .mark .result) (met join .1) (c .before .mark .ensures) (c .accepted .result)
-    (c .accepted .ensures))
+    (c .accepted .ensures)))
 
 pub arrive-spec : {M : Type 1} → statement M
 arrive-spec =

@@ -3,11 +3,12 @@
 use borrow.Author.Needs.{needs}
 use native.Mathlib.Omega.{arith}
 use Prim.Native.Nat.{_+_, _≤_, _<_}
-use mathlib.Core.Path.{_≡_, sym, _∙_}
+use mathlib.Core.Path.{_≡_, refl, sym, _∙_}
 use Rattle.definitions.specs.Sizes.{ids, poolLimit}
 use Rattle.definitions.specs.Checks.{loadChecks}
 use Rattle.tables.specs.Tables.{Tables, tables, field, poolAt}
 use Rattle.tables.specs.Numbers.{refusal}
+use Rattle.tables.proofs.Promises.{in-place}
 use Rattle.traffic.proofs.LoadPromise.{load-refused, load-below, load-fits, load-accepted}
 use Rattle.traffic.proofs.load.Statement.{statement}
 use Rattle.traffic.proofs.load.Tie as tie
@@ -21,8 +22,9 @@ refused-requires c κs = search needs
 returns : tie.Need-returns
 returns c =
     let start = c .before .before .before .before in
-    load-refused (start .args .control) _ (start .pre) (start .args .id) (start .args .dummies) (c .refused .result) _
-    (c .refused .ensures) (c .before .before .load-number .ensures _ _ _ _) (c .before .if1 .taken)
+    in-place refl refl
+    (load-refused (start .args .control) _ (start .pre) (start .args .id) (start .args .dummies) (c .refused .result) _
+    (c .refused .ensures) (c .before .before .load-number .ensures _ _ _ _) (c .before .if1 .taken))
 
 -- what is known where no check failed
 abbrev entry : tie.Else1 → Tables
@@ -77,8 +79,9 @@ unfolding field ids
 returns-2 c =
     let e = c .before .before in
     let start = e .before .before .before in
-    load-accepted (start .args .control) (entry e) (start .pre) (start .args .id) (start .args .dummies) (none e)
-    (c .accepted .result) (c .accepted .ensures)
+    in-place refl refl
+    (load-accepted (start .args .control) (entry e) (start .pre) (start .args .id) (start .args .dummies) (none e)
+    (c .accepted .result) (c .accepted .ensures))
 
 pub load-spec : {M : Type 1} → statement M
 load-spec =

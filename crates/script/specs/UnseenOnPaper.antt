@@ -1,0 +1,34 @@
+-- "two cores that differ only in places where no packet waits give the same answers and printed lines to the same calls" (paper
+-- 02, S-3): the printed lines. The answers are in crates/tables, Unseen.
+use Prim.Native.Nat.{ℕ}
+use mathlib.Core.Path.{_≡_}
+use mathlib.Core.List.{List, [], _++_}
+use lib.ListN.{take}
+use Rattle.tables.specs.declared.Control.{Control}
+use Rattle.tables.specs.Tables.{Tables}
+use Rattle.tables.specs.Meaning.{coreOf}
+use Rattle.tables.specs.Invariant.{Valid}
+use Rattle.tables.specs.Places.{DifferUnused}
+use Rattle.script.specs.declared.Progress.{Progress}
+use Rattle.script.specs.Pieces.{Piece}
+
+-- Pieces one after the other from a place of a text on, with control c and tables t there: the bytes that were written, and the
+-- place, control and tables behind them.
+pub data PiecesFrom (text : List ℕ) (from : ℕ) (c : Control) (t : Tables) : List ℕ → ℕ → Control → Tables → Type 0 where
+  here : PiecesFrom text from c t [] from c t
+  piece : {bytes : List ℕ} {at : ℕ} {d : Control} {u v : Tables} {out : List ℕ} {r : Progress}
+      → PiecesFrom text from c t bytes at d u
+      → Piece text at d u out r v
+      → PiecesFrom text from c t (bytes ++ take (r .written) out) (r .next) (r .control) v
+
+-- Two cores are given the same text from the same place on, in pieces of any length. Wherever both have come to the same place,
+-- the same bytes were written, and the cores mean the same.
+unfoldable pub UnseenOnPaper : Type 0
+UnseenOnPaper =
+    (text : List ℕ) (from : ℕ) (c : Control) (t u : Tables)
+    → Valid c t
+    → DifferUnused c t u
+    → (first second : List ℕ) (at : ℕ) (d e : Control) (v w : Tables)
+    → PiecesFrom text from c t first at d v
+    → PiecesFrom text from c u second at e w
+    → (second ≡ first) × (coreOf e w ≡ coreOf d v)

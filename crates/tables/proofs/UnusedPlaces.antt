@@ -1,0 +1,300 @@
+-- What stands in places where no packet waits is never seen. The meaning reads the places of the queues, and those of the order,
+-- which are places of indifferent queues; so two cores that are the same there mean one core. Calls that keep their promise go by
+-- the meaning alone, so they cannot tell them apart, however many follow: by induction over the calls. Assumes nothing.
+use Prim.Native.Nat.{ℕ, _*_, _<_}
+use mathlib.Core.Path.{_≡_, refl, sym, ap, ap₂, subst, fun-ext, _∙_}
+use mathlib.Core.Logic.{_≢_}
+use mathlib.Core.Bool.{Bool, true, false, cond, not, _&&_}
+use mathlib.Core.List.{List, [], _∷_, map}
+use native.Mathlib.Nat.{div-lt-iff-lt-mul}
+use native.Mathlib.Omega.{arith}
+use lib.Dec.{eqb, ltb}
+use lib.ListN.{length, getD, set}
+use lib.Seq.{getD-set-other}
+use borrow.Author.Tests.{ltb-true, lt-ltb}
+use Rattle.definitions.specs.declared.Packet.{Packet}
+use Rattle.definitions.specs.declared.Answer.{Answer}
+use Rattle.definitions.specs.declared.Answer.the-variants.{Accepted}
+use Rattle.definitions.specs.Sizes.{ids, places}
+use Rattle.definitions.specs.Client.{isIndifferent, Client, nobody}
+use Rattle.definitions.specs.Stock.{bare}
+use Rattle.definitions.specs.State.{State, Core, unopened, running, fresh}
+use Rattle.definitions.specs.Checks.{Result, Check, accepted, refused, checked, unchanged, openChecks, rates}
+use Rattle.definitions.specs.Event.{Event, Open}
+use Rattle.definitions.specs.Calls.{onOpen}
+use Rattle.definitions.specs.Core.{step}
+use Rattle.definitions.specs.Limits.{StateLimits}
+use Rattle.definitions.specs.History.{History, start, _then_, Dealing, Trace, begin, _and_, pickOf, drawsOf}
+use Rattle.definitions.proofs.Laws.Tests.{eqb-same}
+use Rattle.marks.specs.Marks.{marked}
+use Rattle.order.specs.Order.{sentinel, nextOf, Joined, Linked, All, Absent, Ordered, walked}
+use Rattle.order.specs.Owner.{owner, placesOf}
+use Rattle.order.proofs.DistinctLists.{all-map}
+use Rattle.order.proofs.OrderWalk.{ordered-walked}
+use Rattle.tables.specs.declared.Control.{Control}
+use Rattle.tables.specs.declared.Answered.{Answered}
+use Rattle.tables.specs.Tables.{Tables, poolAt, headAt, countAt, ring}
+use Rattle.tables.specs.Meaning.{kindAt, packetAt, queueAt, clientAt, clientsOf, stockAt, stocksOf, orderOf, sideOf, stateOf, coreOf}
+use Rattle.tables.specs.Invariant.{Sized, Shape, SoundCore, Valid}
+use Rattle.tables.specs.Promise.{Meets}
+use Rattle.tables.specs.Run.{dealing, callsOf}
+use Rattle.tables.specs.Places.{waitingPlaces, SameLinks, SamePlace, SameWhereWaiting, DifferUnused}
+use Rattle.tables.specs.Unseen.{CallsFrom, here, called, Indistinct, Laid, overwritten, Unused, UnusedUnseen}
+use Rattle.tables.proofs.Fields.{places-positive, ring-length}
+use Rattle.tables.proofs.QueueRing.{packets-same}
+use Rattle.tables.proofs.Promises.{coreOf-opened}
+
+-- each place of an order is one of its owner's
+module _ (P : ℕ → Type 0) where
+  own-place : (p : ℕ) (order : List ℕ) → All P (placesOf (owner p) (p ∷ order)) → P p
+  unfolding placesOf
+  own-place p order all =
+      subst (λ (b : Bool). All P (cond b (p ∷ placesOf (owner p) order) (placesOf (owner p) order))) (eqb-same (owner p)) all .0
+
+  other-places : (id p : ℕ) (order : List ℕ) → All P (placesOf id (p ∷ order)) → All P (placesOf id order)
+  unfolding placesOf
+  other-places id p order = go (eqb (owner p) id)
+    where
+      go : (b : Bool) → All P (cond b (p ∷ placesOf id order) (placesOf id order)) → All P (placesOf id order)
+      go true all = all .1
+      go false all = all
+
+  owner-below : (p : ℕ) → p < sentinel → owner p < ids
+  unfolding owner sentinel
+  owner-below p below = div-lt-iff-lt-mul places-positive .1 below
+
+  placesOf-each : (order : List ℕ) → All (λ p. p < sentinel) order
+      → ((id : ℕ) → id < ids → All P (placesOf id order))
+      → All P order
+  placesOf-each [] within each = tt
+  placesOf-each (p ∷ order) within each = (
+    own-place p order (each (owner p) (owner-below p (within .0))),
+    placesOf-each order (within .1) (λ id below. other-places id p order (each id below)),
+  )
+
+module _ (t u : Tables) where
+  -- a stretch of the order that goes through nodes with the same links
+  linked-same : (a : ℕ) (order : List ℕ) (b : ℕ)
+      → SameLinks t u a → All (SameLinks t u) order → SameLinks t u b
+      → Linked (t .links) a order b
+      → Linked (u .links) a order b
+  linked-same a [] b from all to h = record { next = from .next ∙ h .next; prev = to .prev ∙ h .prev }
+  linked-same a (p ∷ order) b from all to h = (
+    record { next = from .next ∙ h .0 .next; prev = all .0 .prev ∙ h .0 .prev },
+    linked-same p order b (all .0) (all .1) to (h .1),
+  )
+
+  ordered-same : (order : List ℕ) → SameLinks t u sentinel → All (SameLinks t u) order
+      → Ordered (t .links) order
+      → Ordered (u .links) order
+  ordered-same order ends all h = record {
+    linked = linked-same sentinel order sentinel ends all ends (h .linked);
+    within = h .within;
+    distinct = h .distinct;
+  }
+
+  -- a queue at the same places, with the same packets there
+  queue-same : (id : ℕ) → waitingPlaces u id ≡ waitingPlaces t id → All (SamePlace t u) (waitingPlaces t id)
+      → queueAt u id ≡ queueAt t id
+  unfolding queueAt waitingPlaces
+  queue-same id same all =
+      ap (map (packetAt u)) same
+      ∙ packets-same t u (waitingPlaces t id)
+      (all-map (SamePlace t u) (λ p. packetAt u p ≡ packetAt t p) (λ p e. e .packet) (waitingPlaces t id) all)
+
+  stock-same : SameWhereWaiting t u → (id : ℕ) → id < ids → stockAt u id ≡ stockAt t id
+  unfolding stockAt
+  stock-same same id below = λ i. record {
+    queue = queue-same id (same .waiting id below) (same .places id below) i;
+    pool = same .pools id below i;
+  }
+
+  stocks-same : SameWhereWaiting t u → stocksOf u ≡ stocksOf t
+  unfolding stocksOf
+  stocks-same same = fun-ext (λ id. go id (ltb id ids) refl)
+    where
+      go : (id : ℕ) (b : Bool) → ltb id ids ≡ b → cond b (stockAt u id) bare ≡ cond b (stockAt t id) bare
+      go id true e = stock-same same id (ltb-true id ids e)
+      go id false e = refl
+
+  counts-same : (id : ℕ) → waitingPlaces u id ≡ waitingPlaces t id → countAt (u .stocks) id ≡ countAt (t .stocks) id
+  unfolding waitingPlaces
+  counts-same id same =
+      sym (ring-length id (headAt (u .stocks) id) (countAt (u .stocks) id))
+      ∙ ap length same
+      ∙ ring-length id (headAt (t .stocks) id) (countAt (t .stocks) id)
+
+module _ (c : Control) (t u : Tables) (shape : Shape c t) (same : SameWhereWaiting t u) where
+  clients-same : clientsOf c u ≡ clientsOf c t
+  unfolding clientsOf clientAt
+  clients-same = rw (same .terms)
+
+  -- the order has places of indifferent queues alone
+  placed-same : (id : ℕ) → id < ids → All (SameLinks t u) (placesOf id (shape .order))
+  unfolding waitingPlaces
+  placed-same id below = subst (All (SameLinks t u)) (sym (shape .placed id below)) (go (isIndifferent (kindAt c id)))
+    where
+      links-same : All (SameLinks t u) (waitingPlaces t id)
+      links-same = all-map (SamePlace t u) (SameLinks t u) (λ p e. e .links) (waitingPlaces t id) (same .places id below)
+
+      go : (b : Bool) → All (SameLinks t u) (cond b (ring id (headAt (t .stocks) id) (countAt (t .stocks) id)) [])
+      go true = links-same
+      go false = tt
+
+  order-kept : Ordered (u .links) (shape .order)
+  order-kept =
+      ordered-same t u (shape .order) (same .ends)
+      (placesOf-each (SameLinks t u) (shape .order) (shape .ordered .within) placed-same) (shape .ordered)
+
+  order-same : orderOf u ≡ orderOf t
+  unfolding orderOf
+  order-same =
+      ap (map owner)
+      (ordered-walked (u .links) (shape .order) order-kept ∙ sym (ordered-walked (t .links) (shape .order) (shape .ordered)))
+
+  state-same : stateOf c u ≡ stateOf c t
+  unfolding stateOf sideOf
+  state-same = λ i. record {
+    threshold = c .threshold;
+    discipline = c .discipline;
+    clients = clients-same i;
+    side = record { generator = c .generator .value; order = order-same i; stocks = stocks-same t u same i };
+  }
+
+  waits-same : (id : ℕ) → marked (c .waiting) id ≡ ltb id ids && not (eqb (countAt (u .stocks) id) 0)
+  waits-same id = shape .waits id ∙ go (ltb id ids) refl
+    where
+      go : (b : Bool) → ltb id ids ≡ b
+          → b && not (eqb (countAt (t .stocks) id) 0) ≡ b && not (eqb (countAt (u .stocks) id) 0)
+      go true e = ap (λ (n : ℕ). not (eqb n 0)) (sym (counts-same t u id (same .waiting id (ltb-true id ids e))))
+      go false e = refl
+
+  shape-same : Laid u → Shape c u
+  unfolding waitingPlaces
+  shape-same laid = record {
+    sizes = laid .sizes;
+    heads = laid .heads;
+    waits = waits-same;
+    apart = shape .apart;
+    ratesHeld = shape .ratesHeld ∙ ap rates (sym clients-same);
+    sound = laid .sound;
+    order = shape .order;
+    ordered = order-kept;
+    placed = λ id below.
+        shape .placed id below
+        ∙ ap (λ (ring : List ℕ). cond (isIndifferent (kindAt c id)) ring []) (sym (same .waiting id below));
+  }
+
+module _ (c : Control) (t u : Tables) (valid : Valid c t) (differ : DifferUnused c t u) where
+  core-same : coreOf c u ≡ coreOf c t
+  unfolding coreOf
+  core-same = go (c .opened) refl
+    where
+      go : (b : Bool) → c .opened ≡ b → cond b (running (stateOf c u)) unopened ≡ cond b (running (stateOf c t)) unopened
+      go true e = ap running (state-same c t u (valid e .shape) (differ e))
+      go false e = refl
+
+  valid-same : Laid u → Valid c u
+  valid-same laid e = record {
+    shape = shape-same c t u (valid e .shape) (differ e) laid;
+    limits = rw (state-same c t u (valid e .shape) (differ e)) (valid e .limits);
+  }
+
+-- one call, on two cores that mean the same
+module _ {call : Event} {c d : Control} {t u v w : Tables} {r q : Answered}
+    (same : coreOf d u ≡ coreOf c t) (m : Meets call c t r v) (n : Meets call d u q w)
+  where
+    answer-same : q .answer ≡ r .answer
+    answer-same = n .answer ∙ ap (λ (x : Core). step x call .answer) same ∙ sym (m .answer)
+
+    core-after : coreOf (q .control) w ≡ coreOf (r .control) v
+    core-after = n .core ∙ ap (λ (x : Core). step x call .core) same ∙ sym (m .core)
+
+    dealing-same : dealing call d u q ≡ dealing call c t r
+    dealing-same = λ i. record {
+      event = call;
+      answer = answer-same i;
+      pick = ap pickOf same i;
+      draws = ap drawsOf same i;
+    }
+
+-- any calls: at each the two cores mean the same, so it gets the same
+calls-same : {c d : Control} {t u : Tables} {first second : Trace} {e f : Control} {v w : Tables}
+    → coreOf d u ≡ coreOf c t
+    → CallsFrom c t first e v
+    → CallsFrom d u second f w
+    → callsOf second ≡ callsOf first
+    → (second ≡ first) × (coreOf f w ≡ coreOf e v)
+unfolding callsOf
+calls-same same here here agree = (refl, same)
+calls-same same here (called y n) agree = let no : _≡_ {A = ℕ} 0 1 = cc in absurd (omega arith)
+calls-same same (called x m) here agree = let no : _≡_ {A = ℕ} 0 1 = cc in absurd (omega arith)
+calls-same same (called {trace = first} {call = call} x m) (called {trace = second} {d = d} {u = u} {v = w} {call = other} {r = q} y n) agree =
+    let before : (second ≡ first) × _ = calls-same same x y (cc) in
+    let one : other ≡ call = cc in
+    let n′ : Meets call d u q w = subst (λ (x : Event). Meets x d u q w) one n in
+    (ap₂ _and_ (before .0) (ap (λ (x : Event). dealing x d u q) one ∙ dealing-same (before .1) m n′), core-after (before .1) m n′)
+
+pub indistinct : {c d : Control} {t u : Tables} → coreOf d u ≡ coreOf c t → Indistinct c t d u
+indistinct same = record {
+  core = same;
+  call = λ m n. (answer-same same m n, core-after same m n);
+  calls = calls-same same;
+}
+
+-- An open that is accepted leaves a fresh core; its checks ask nothing of the core before, so it is accepted by any.
+checked-accepted : (cs : List Check) (before other : Core) (s : State)
+    → checked cs (unchanged before) (accepted s) .answer ≡ Accepted
+    → checked cs (unchanged other) (accepted s) .core ≡ running s
+unfolding checked
+checked-accepted [] before other s e = refl
+checked-accepted (c ∷ cs) before other s e = go (c .passed) (checked-accepted cs before other s) e
+  where
+    go : (b : Bool)
+        → (checked cs (unchanged before) (accepted s) .answer ≡ Accepted → checked cs (unchanged other) (accepted s) .core ≡ running s)
+        → cond b (checked cs (unchanged before) (accepted s)) (refused (c .number) before) .answer ≡ Accepted
+        → cond b (checked cs (unchanged other) (accepted s)) (refused (c .number) other) .core ≡ running s
+    go true rest e = rest e
+    go false rest e = let no : _≡_ {A = ℕ} 0 1 = cc in absurd (omega arith)
+
+module _ {threshold discipline seed : ℕ} {c d : Control} {t u v w : Tables} {r q : Answered}
+    (m : Meets (Open threshold discipline seed) c t r v) (n : Meets (Open threshold discipline seed) d u q w)
+    (accepts : r .answer ≡ Accepted)
+  where
+    fresh-after : coreOf (q .control) w ≡ running (fresh threshold discipline seed)
+    unfolding step onOpen
+    fresh-after =
+        n .core
+        ∙ checked-accepted (openChecks threshold discipline seed) (coreOf c t) (coreOf d u) (fresh threshold discipline seed)
+        (sym (m .answer) ∙ accepts)
+
+-- other numbers at a place where no packet waits
+module _ (t : Tables) (place handle length : ℕ) (unused : Unused t place) where
+  place-kept : (p : ℕ) → place ≢ p → SamePlace t (overwritten t place handle length) p
+  unfolding packetAt
+  place-kept p other = record {
+    packet = λ i. record {
+      handle = getD-set-other (t .handles) place p handle 0 (λ e. other (sym e)) i;
+      length = getD-set-other (t .lengths) place p length 0 (λ e. other (sym e)) i;
+    };
+    links = record { next = refl; prev = refl };
+  }
+
+  waiting-kept : SameWhereWaiting t (overwritten t place handle length)
+  unfolding waitingPlaces
+  waiting-kept = record {
+    terms = refl;
+    pools = λ id below. refl;
+    waiting = λ id below. refl;
+    places = λ id below.
+        all-map (λ p. place ≢ p) (SamePlace t (overwritten t place handle length)) place-kept (waitingPlaces t id) (unused id below);
+    ends = record { next = refl; prev = refl };
+  }
+
+pub unused-unseen : UnusedUnseen
+unused-unseen = record {
+  indistinct = λ c t u valid differ. indistinct (core-same c t u valid differ);
+  valid = valid-same;
+  overwriting = λ c t place handle length valid unused e. waiting-kept t place handle length unused;
+  opened = λ m n e. indistinct (fresh-after m n e ∙ sym (fresh-after m m e));
+}
