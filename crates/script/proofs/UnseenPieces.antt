@@ -1,6 +1,6 @@
 -- Places where no packet waits do not show in what is printed: pieces go by what the tables mean, and chain. Assumes nothing.
 use Prim.Native.Nat.{ℕ, _≤_}
-use mathlib.Core.Path.{_≡_, refl, sym, ap, ap₂, _∙_}
+use mathlib.Core.Path.{_≡_, refl, sym, ap, _∙_}
 use mathlib.Core.List.{List, [], _++_, append-assoc, append-cancel-right}
 use native.Mathlib.Omega.{arith}
 use lib.ListN.{take}
@@ -10,7 +10,7 @@ use Rattle.tables.specs.Tables.{Tables}
 use Rattle.tables.specs.Meaning.{coreOf}
 use Rattle.tables.proofs.UnusedPlaces.{unused-unseen}
 use Rattle.script.specs.Pieces.{ahead, coreBehind}
-use Rattle.script.specs.UnseenOnPaper.{PiecesFrom, here, piece, UnseenOnPaper}
+use Rattle.script.specs.UnseenOnPaper.{PiecesFrom, here, piece, linesOf, UnseenOnPaper}
 use Rattle.script.proofs.LinePrinted.{core-here}
 
 module _ {text : List ℕ} {from : ℕ} {c : Control} {t : Tables} where
@@ -35,12 +35,15 @@ module _ {text : List ℕ} {from : ℕ} {c : Control} {t : Tables} where
   pieces-core {at = at} {d} {u} w = sym (core-here (coreOf d u) text at) ∙ pieces-alike w at (omega arith)
 
 pub unseen-on-paper : UnseenOnPaper
-unfolding UnseenOnPaper
-unseen-on-paper text from c t u valid differ first second at d e v w x y =
-    let before = unused-unseen .indistinct c t u valid differ .core in
-    let after : coreOf e w ≡ coreOf d v = pieces-core y ∙ ap (λ (k : Core). coreBehind k text from at) before ∙ sym (pieces-core x) in (
-      append-cancel-right second first (ahead (coreOf d v) text at)
-      (ap (λ (k : Core). second ++ ahead k text at) (sym after)
-      ∙ pieces-printed y ∙ ap (λ (k : Core). ahead k text from) before ∙ sym (pieces-printed x)),
-      after,
-    )
+unseen-on-paper = record {
+  calls = λ c t u valid differ first second d e v w x y same.
+      ap linesOf (unused-unseen .indistinct c t u valid differ .calls x y same .0);
+  script = λ text from c t u valid differ first second at d e v w x y.
+      let before = unused-unseen .indistinct c t u valid differ .core in
+      let after : coreOf e w ≡ coreOf d v = pieces-core y ∙ ap (λ (k : Core). coreBehind k text from at) before ∙ sym (pieces-core x) in (
+        append-cancel-right second first (ahead (coreOf d v) text at)
+            (ap (λ (k : Core). second ++ ahead k text at) (sym after)
+            ∙ pieces-printed y ∙ ap (λ (k : Core). ahead k text from) before ∙ sym (pieces-printed x)),
+        after,
+      );
+}

@@ -4,11 +4,15 @@ use Prim.Native.Nat.{ℕ}
 use mathlib.Core.Path.{_≡_}
 use mathlib.Core.List.{List, [], _++_}
 use lib.ListN.{take}
+use Rattle.definitions.specs.History.{Trace, begin, _and_}
+use Rattle.grammar.specs.Printout.{printed}
 use Rattle.tables.specs.declared.Control.{Control}
 use Rattle.tables.specs.Tables.{Tables}
 use Rattle.tables.specs.Meaning.{coreOf}
 use Rattle.tables.specs.Invariant.{Valid}
+use Rattle.tables.specs.Run.{callsOf}
 use Rattle.tables.specs.Places.{DifferUnused}
+use Rattle.tables.specs.Unseen.{CallsFrom}
 use Rattle.script.specs.declared.Progress.{Progress}
 use Rattle.script.specs.Pieces.{Piece}
 
@@ -21,14 +25,27 @@ pub data PiecesFrom (text : List ℕ) (from : ℕ) (c : Control) (t : Tables) : 
       → Piece text at d u out r v
       → PiecesFrom text from c t (bytes ++ take (r .written) out) (r .next) (r .control) v
 
--- Two cores are given the same text from the same place on, in pieces of any length. Wherever both have come to the same place,
--- the same bytes were written, and the cores mean the same.
-unfoldable pub UnseenOnPaper : Type 0
-UnseenOnPaper =
-    (text : List ℕ) (from : ℕ) (c : Control) (t u : Tables)
-    → Valid c t
-    → DifferUnused c t u
-    → (first second : List ℕ) (at : ℕ) (d e : Control) (v w : Tables)
-    → PiecesFrom text from c t first at d v
-    → PiecesFrom text from c u second at e w
-    → (second ≡ first) × (coreOf e w ≡ coreOf d v)
+-- the lines that the answers of a trace print
+unfoldable pub linesOf : Trace → List ℕ
+linesOf begin = []
+linesOf (trace and d) = linesOf trace ++ printed (d .answer)
+
+pub record UnseenOnPaper : Type 0 where
+  -- whatever is called on both, the answers print the same lines
+  pub calls : (c : Control) (t u : Tables)
+      → Valid c t
+      → DifferUnused c t u
+      → (first second : Trace) (d e : Control) (v w : Tables)
+      → CallsFrom c t first d v
+      → CallsFrom c u second e w
+      → callsOf second ≡ callsOf first
+      → linesOf second ≡ linesOf first
+  -- Both are given the same text from the same place on, in pieces of any length. Wherever both have come to the same place, the
+  -- same bytes were written, and the cores mean the same.
+  pub script : (text : List ℕ) (from : ℕ) (c : Control) (t u : Tables)
+      → Valid c t
+      → DifferUnused c t u
+      → (first second : List ℕ) (at : ℕ) (d e : Control) (v w : Tables)
+      → PiecesFrom text from c t first at d v
+      → PiecesFrom text from c u second at e w
+      → (second ≡ first) × (coreOf e w ≡ coreOf d v)
