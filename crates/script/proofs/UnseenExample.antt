@@ -1,5 +1,5 @@
--- A core with a packet waiting: the tables that opening fills, after a join and an arrival as those calls' promises have them. What
--- it means is computed over the definitions, and so are its answers. Assumes nothing.
+-- A core with a packet waiting: the tables that opening fills, after a join and an arrival as those calls' promises have them.
+-- What it means is computed over the definitions, and so are its answers. Assumes nothing.
 use Prim.Native.Nat.{ℕ, zero, suc, _+_, _<_}
 use mathlib.Core.Path.{_≡_, refl, sym, ap, ap₂, subst, _∙_}
 use mathlib.Core.Logic.{_≢_}
@@ -176,7 +176,8 @@ module _ (handle : ℕ) where
   unused : Unused t₃ 1
   unused zero below = rw waits (λ e. omega arith, tt)
   unused (suc id) below =
-      unfold waitingPlaces in second-elsewhere (suc id) (headAt (t₃ .stocks) (suc id)) (countAt (t₃ .stocks) (suc id)) (λ e. omega arith)
+      unfold waitingPlaces in
+      second-elsewhere (suc id) (headAt (t₃ .stocks) (suc id)) (countAt (t₃ .stocks) (suc id)) (λ e. omega arith)
 
 -- the handles or the lengths of both
 overwritten-twice : (table : List ℕ) (first second : ℕ)

@@ -40,7 +40,8 @@ unseen-on-paper = record {
       ap linesOf (unused-unseen .indistinct c t u valid differ .calls x y same .0);
   script = λ text from c t u valid differ first second at d e v w x y.
       let before = unused-unseen .indistinct c t u valid differ .core in
-      let after : coreOf e w ≡ coreOf d v = pieces-core y ∙ ap (λ (k : Core). coreBehind k text from at) before ∙ sym (pieces-core x) in (
+      let after : coreOf e w ≡ coreOf d v =
+      pieces-core y ∙ ap (λ (k : Core). coreBehind k text from at) before ∙ sym (pieces-core x) in (
         append-cancel-right second first (ahead (coreOf d v) text at)
             (ap (λ (k : Core). second ++ ahead k text at) (sym after)
             ∙ pieces-printed y ∙ ap (λ (k : Core). ahead k text from) before ∙ sym (pieces-printed x)),

@@ -229,7 +229,9 @@ unfolding callsOf
 calls-same same here here agree = (refl, same)
 calls-same same here (called y n) agree = let no : _≡_ {A = ℕ} 0 1 = cc in absurd (omega arith)
 calls-same same (called x m) here agree = let no : _≡_ {A = ℕ} 0 1 = cc in absurd (omega arith)
-calls-same same (called {trace = first} {call = call} x m) (called {trace = second} {d = d} {u = u} {v = w} {call = other} {r = q} y n) agree =
+calls-same same (called {trace = first} {call = call} x m)
+    (called {trace = second} {d = d} {u = u} {v = w} {call = other} {r = q} y n)
+    agree =
     let before : (second ≡ first) × _ = calls-same same x y (cc) in
     let one : other ≡ call = cc in
     let n′ : Meets call d u q w = subst (λ (x : Event). Meets x d u q w) one n in
@@ -251,7 +253,8 @@ checked-accepted [] before other s e = refl
 checked-accepted (c ∷ cs) before other s e = go (c .passed) (checked-accepted cs before other s) e
   where
     go : (b : Bool)
-        → (checked cs (unchanged before) (accepted s) .answer ≡ Accepted → checked cs (unchanged other) (accepted s) .core ≡ running s)
+        → (checked cs (unchanged before) (accepted s) .answer ≡ Accepted
+        → checked cs (unchanged other) (accepted s) .core ≡ running s)
         → cond b (checked cs (unchanged before) (accepted s)) (refused (c .number) before) .answer ≡ Accepted
         → cond b (checked cs (unchanged other) (accepted s)) (refused (c .number) other) .core ≡ running s
     go true rest e = rest e
@@ -287,7 +290,8 @@ module _ (t : Tables) (place handle length : ℕ) (unused : Unused t place) wher
     pools = λ id below. refl;
     waiting = λ id below. refl;
     places = λ id below.
-        all-map (λ p. place ≢ p) (SamePlace t (overwritten t place handle length)) place-kept (waitingPlaces t id) (unused id below);
+        all-map (λ p. place ≢ p) (SamePlace t (overwritten t place handle length)) place-kept
+        (waitingPlaces t id) (unused id below);
     ends = record { next = refl; prev = refl };
   }
 

@@ -1,5 +1,5 @@
--- What the tables of the core mean, when they are valid, what each call promises, and what is claimed of runs of calls and of places
--- where no packet waits.
+-- What the tables of the core mean, when they are valid, what each call promises, and what is claimed of runs of calls and of
+-- places where no packet waits.
 pub mod Tables
 pub mod Controls
 pub mod Meaning

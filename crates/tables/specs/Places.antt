@@ -1,7 +1,7 @@
--- The places of the waiting packets, under emptying (paper 02, S-3): "emptying is to write no place: all handles and lengths stand
--- after it as before, and two cores that differ only in places where no packet waits give the same answers and printed lines to
--- the same calls". The first half is part of every call's contract, `Promised`. `DifferUnused` says what "differ only" means;
--- `Unseen` has what is claimed of it.
+-- The places of the waiting packets (paper 02, S-3): "emptying is to write no place: all handles and lengths stand after it as
+-- before, and two cores that differ only in places where no packet waits give the same answers and printed lines to the same
+-- calls". The first half is part of every call's contract, `Promised`. `DifferUnused` says what "differ only" means; `Unseen`
+-- has what is claimed of it.
 use Prim.Native.Nat.{ℕ, _<_}
 use mathlib.Core.Path.{_≡_}
 use mathlib.Core.Bool.{Bool, true, false}

@@ -92,7 +92,8 @@ returns-3 c =
     let within = ends found .within in
     let more = parsed .before .before .if1 .left in
     walked-form _ _ _ _ _ _ (start .pre .1) (start .pre .2) _ (found .line-at .ensures) (omega (arith, within)) _
-    (sym (parsed .parse .ensures) ∙ read .read .given .1) _ _ (performed .perform .ensures .meets) (c .before .before .print .ensures)
+    (sym (parsed .parse .ensures) ∙ read .read .given .1) _ _ (performed .perform .ensures .meets)
+    (c .before .before .print .ensures)
 
 pub line-spec : {M : Type 1} → statement M
 line-spec =
