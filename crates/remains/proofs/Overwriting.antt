@@ -1,0 +1,102 @@
+-- Every place where no packet waits is overwritten: one that is fewer places behind the head than the queue has packets is among
+-- those of the queue. By recursion over the queue's ring, and over the places. Assumes nothing.
+use Prim.Native.Nat.{ℕ, zero, suc, _+_, _-_, _/_, _%_, _<_}
+use mathlib.Core.Path.{_≡_, refl, ap, _∙_}
+use mathlib.Core.Logic.{_≢_}
+use mathlib.Core.Bool.{Bool, true, false, cond}
+use mathlib.Core.List.{List}
+use native.Mathlib.Omega.{arith}
+use lib.ListN.{length, getD, set}
+use lib.Seq.{getD-set-same, getD-set-other}
+use borrow.Author.Tests.{ltb-true}
+use Rattle.definitions.specs.Sizes.{ids, places}
+use Rattle.definitions.proofs.Laws.Tests.{eqb-cases}
+use Rattle.order.specs.Order.{sentinel, Absent}
+use Rattle.order.specs.Owner.{owner}
+use Rattle.tables.specs.Tables.{Tables, headAt, countAt, ring}
+use Rattle.tables.specs.Meaning.{packetAt}
+use Rattle.tables.specs.Invariant.{Sized}
+use Rattle.tables.specs.Places.{waitingPlaces}
+use Rattle.tables.specs.Unseen.{Unused}
+use Rattle.tables.proofs.QueueRing.{placeOf}
+use Rattle.remains.specs.Remains.{behindHead, waitsAt, soiledAt, soiledBelow, soiled, soiledTables, UnusedSoiled}
+use Rattle.remains.proofs.Soiling.{soiledBelow-length, soiled-differ}
+
+-- the k-th place of a queue is one of them
+ring-has : (id head n k : ℕ) → k < n → Absent (placeOf id (head + k)) (ring id head n) → ⊥
+unfolding ring
+ring-has id head zero k l absent = omega arith
+ring-has id head (suc n) zero l absent =
+    let none : head + 0 ≡ head = omega arith in
+    absent .0 (ap (placeOf id) none)
+ring-has id head (suc n) (suc k) l absent =
+    let next : head + suc k ≡ suc head + k = omega arith in
+    ring-has id (suc head) n k (omega arith) (rw next at (absent .1))
+
+place-nth : (place head : ℕ) → placeOf (place / places) (head + (place % places + (places - head % places)) % places) ≡ place
+unfolding places
+place-nth place head = omega arith
+
+owner-within : (place : ℕ) → place < sentinel → owner place < ids
+unfolding owner sentinel ids places
+owner-within place below = omega arith
+
+module _ (t : Tables) (place : ℕ) (below : place < sentinel) (unused : Unused t place) where
+  waits-never : waitsAt (t .stocks) place ≡ true → ⊥
+  unfolding waitsAt behindHead owner waitingPlaces
+  waits-never waits =
+      let head = headAt (t .stocks) (owner place) in
+      ring-has (owner place) head (countAt (t .stocks) (owner place)) (behindHead (t .stocks) place) (ltb-true _ _ waits)
+      (rw (place-nth place head) (unused (owner place) (owner-within place below)))
+
+  unused-free : waitsAt (t .stocks) place ≡ false
+  unused-free = go (waitsAt (t .stocks) place) refl
+    where
+      go : (b : Bool) → waitsAt (t .stocks) place ≡ b → b ≡ false
+      go true e = absurd (waits-never e)
+      go false e = refl
+
+module _ (stocks : List ℕ) (number : ℕ) (table : List ℕ) (place : ℕ) where
+  soiledAt-here : (xs : List ℕ) → waitsAt stocks place ≡ false → place < length xs
+      → getD (soiledAt stocks number place xs) place 0 ≡ number
+  unfolding soiledAt
+  soiledAt-here xs free room = rw free (getD-set-same xs place number 0 room)
+
+  soiledAt-elsewhere : (other : ℕ) (xs : List ℕ) → place ≢ other
+      → getD (soiledAt stocks number other xs) place 0 ≡ getD xs place 0
+  unfolding soiledAt
+  soiledAt-elsewhere other xs apart = go (waitsAt stocks other)
+    where
+      go : (b : Bool) → getD (cond b xs (set xs other number)) place 0 ≡ getD xs place 0
+      go true = refl
+      go false = getD-set-other xs other place number 0 apart
+
+  module _ (free : waitsAt stocks place ≡ false) (room : place < length table) where
+    soiledBelow-here : getD (soiledAt stocks number place (soiledBelow place stocks number table)) place 0 ≡ number
+    soiledBelow-here =
+        soiledAt-here (soiledBelow place stocks number table) free (omega (arith, soiledBelow-length stocks number table place))
+
+    soiledBelow-written : (n : ℕ) → place < n → getD (soiledBelow n stocks number table) place 0 ≡ number
+    unfolding soiledBelow
+    soiledBelow-written zero l = absurd (omega arith)
+    soiledBelow-written (suc n) l =
+        eqb-cases (λ b. getD (soiledAt stocks number n (soiledBelow n stocks number table)) place 0 ≡ number) place n
+        (λ e. rw (← e) soiledBelow-here)
+        (λ apart. soiledAt-elsewhere n (soiledBelow n stocks number table) apart ∙ soiledBelow-written n (omega arith))
+
+    soiled-written : place < sentinel → getD (soiled stocks number table) place 0 ≡ number
+    unfolding soiled
+    soiled-written below = soiledBelow-written sentinel below
+
+module _ (t : Tables) (number place : ℕ) (sizes : Sized t) (below : place < sentinel) (unused : Unused t place) where
+  place-written : packetAt (soiledTables number t) place ≡ record { handle = number; length = number }
+  unfolding packetAt sentinel ids places
+  place-written =
+      let free : waitsAt (t .stocks) place ≡ false = unused-free t place below unused in
+      λ i. record {
+        handle = soiled-written (t .stocks) number (t .handles) place free (omega (arith, sizes .handles)) below i;
+        length = soiled-written (t .stocks) number (t .lengths) place free (omega (arith, sizes .lengths)) below i;
+      }
+
+pub unused-soiled : UnusedSoiled
+unused-soiled = record { written = place-written; differ = λ c t number. soiled-differ number t c }
