@@ -19,6 +19,7 @@ use Rattle.tables.specs.Invariant.{Sized}
 use Rattle.tables.specs.Places.{waitingPlaces}
 use Rattle.tables.specs.Unseen.{Unused}
 use Rattle.tables.proofs.QueueRing.{placeOf}
+use Rattle.tables.proofs.UnusedPlaces.{owner-below}
 use Rattle.remains.specs.Remains.{behindHead, waitsAt, soiledAt, soiledBelow, soiled, soiledTables, UnusedSoiled}
 use Rattle.remains.proofs.Soiling.{soiledBelow-length, soiled-differ}
 
@@ -37,17 +38,13 @@ place-nth : (place head : ℕ) → placeOf (place / places) (head + (place % pla
 unfolding places
 place-nth place head = omega arith
 
-owner-within : (place : ℕ) → place < sentinel → owner place < ids
-unfolding owner sentinel ids places
-owner-within place below = omega arith
-
 module _ (t : Tables) (place : ℕ) (below : place < sentinel) (unused : Unused t place) where
   waits-never : waitsAt (t .stocks) place ≡ true → ⊥
   unfolding waitsAt behindHead owner waitingPlaces
   waits-never waits =
       let head = headAt (t .stocks) (owner place) in
       ring-has (owner place) head (countAt (t .stocks) (owner place)) (behindHead (t .stocks) place) (ltb-true _ _ waits)
-      (rw (place-nth place head) (unused (owner place) (owner-within place below)))
+      (rw (place-nth place head) (unused (owner place) (owner-below place below)))
 
   unused-free : waitsAt (t .stocks) place ≡ false
   unused-free = go (waitsAt (t .stocks) place) refl

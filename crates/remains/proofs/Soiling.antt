@@ -10,21 +10,19 @@ use lib.ListN.{length, getD, set, length-set}
 use lib.Seq.{getD-set-other}
 use borrow.Author.Tests.{lt-ltb}
 use Rattle.definitions.specs.Sizes.{ids, places}
-use Rattle.definitions.specs.Stock.{Stock}
 use Rattle.definitions.specs.State.{Core}
 use Rattle.definitions.proofs.Laws.Tests.{true-false}
-use Rattle.definitions.proofs.Limits.Stock.{queue-high}
 use Rattle.order.specs.Order.{sentinel, All}
 use Rattle.order.proofs.DistinctLists.{all-map}
 use Rattle.tables.specs.declared.Control.{Control}
 use Rattle.tables.specs.Tables.{Tables, tables, headAt, countAt, ring}
-use Rattle.tables.specs.Meaning.{packetAt, clientsOf, stockAt, stocksOf, sideOf, stateOf, coreOf}
+use Rattle.tables.specs.Meaning.{packetAt, coreOf}
 use Rattle.tables.specs.Invariant.{SoundCore, Valid}
 use Rattle.tables.specs.Places.{waitingPlaces, SamePlace, DifferUnused}
 use Rattle.tables.specs.Unseen.{Laid}
 use Rattle.tables.proofs.Fields.{place-owner}
-use Rattle.tables.proofs.QueueRing.{placeOf, queue-length}
-use Rattle.tables.proofs.Touch.{stock-own}
+use Rattle.tables.proofs.QueueRing.{placeOf}
+use Rattle.tables.proofs.Touch.{count-high}
 use Rattle.tables.proofs.UnusedPlaces.{unused-unseen}
 use Rattle.runs.specs.declared.Progress.{Progress}
 use Rattle.runs.specs.Stands.{Goes}
@@ -102,23 +100,11 @@ module _ (number : ℕ) (t : Tables) where
   }
 
   module _ (c : Control) (sound : SoundCore c t) where
-    count-within : (id : ℕ) → id < ids → countAt (t .stocks) id ≤ places
-    unfolding stateOf sideOf stockAt
-    count-within id below =
-        let limits = sound .limits .sideLimits .stockLimits id in
-        let high = queue-high (clientsOf c t id .kind) (stocksOf t id .queue) (limits .queues) in
-        omega (
-          arith,
-          high,
-          queue-length t id,
-          ap (λ (k : Stock). length (k .queue)) (stock-own c t (sound .shape) id below),
-        )
-
     places-wait : (id : ℕ) → id < ids → All (λ p. waitsAt (t .stocks) p ≡ true) (waitingPlaces t id)
     unfolding waitingPlaces
     places-wait id below =
         let none : headAt (t .stocks) id + 0 ≡ headAt (t .stocks) id = omega arith in
-        rw none at (ring-waits (t .stocks) id 0 (countAt (t .stocks) id) (omega arith) (count-within id below))
+        rw none at (ring-waits (t .stocks) id 0 (countAt (t .stocks) id) (omega arith) (count-high c t sound id below))
 
     soiled-laid : Laid (soiledTables number t)
     soiled-laid = record {
@@ -149,8 +135,8 @@ module _ (number : ℕ) (t : Tables) where
     soiled-core = unused-unseen .indistinct c t (soiledTables number t) valid soiled-differ .core
 
     soiled-valid : Valid c (soiledTables number t)
-    soiled-valid e =
-        unused-unseen .valid c t (soiledTables number t) valid soiled-differ (soiled-laid c (valid e)) e
+    soiled-valid =
+        unused-unseen .valid c t (soiledTables number t) valid soiled-differ (λ e. soiled-laid c (valid e))
 
 -- calls that were made, with the tables overwritten behind them
 module _ {p q : Progress} {t u : Tables} {calls : ℕ} (number : ℕ) (g : Goes calls p t q u) where

@@ -1,25 +1,21 @@
 -- What the limits say of the numbers that are read and written for one id, so that no index is out of range and no sum wraps.
 -- By the limits of each kind. Assumes nothing.
 use Prim.Native.Nat.{ℕ, _≤_, _<_}
-use mathlib.Core.Path.{_≡_, sym, ap, subst}
+use mathlib.Core.Path.{_≡_, sym, subst}
 use mathlib.Core.Bool.{true}
 use native.Mathlib.Omega.{arith}
-use lib.ListN.{length}
-use Rattle.definitions.specs.Sizes.{ids, places, shares, burstLimit}
+use Rattle.definitions.specs.Sizes.{ids, shares, burstLimit}
 use Rattle.definitions.specs.Client.{kindOf, isActive, joining}
-use Rattle.definitions.specs.Stock.{Stock}
 use Rattle.definitions.specs.Checks.{termChecks}
 use Rattle.definitions.proofs.Laws.Checked.{Passed}
 use Rattle.definitions.proofs.Laws.Rates.{held, held-active}
 use Rattle.definitions.proofs.Limits.Client.{rate-high, burst-high, terms-passed}
-use Rattle.definitions.proofs.Limits.Stock.{queue-high}
 use Rattle.tables.specs.declared.Control.{Control}
-use Rattle.tables.specs.Tables.{Tables, countAt}
+use Rattle.tables.specs.Tables.{Tables}
 use Rattle.tables.specs.Controls.{withWaiting}
-use Rattle.tables.specs.Meaning.{clientsOf, stockAt, stocksOf, sideOf, stateOf}
+use Rattle.tables.specs.Meaning.{stateOf}
 use Rattle.tables.specs.Invariant.{SoundCore}
-use Rattle.tables.proofs.QueueRing.{queue-length}
-use Rattle.tables.proofs.Touch.{stock-own}
+use Rattle.tables.proofs.Touch.{count-high}
 use Rattle.settings.specs.Writes.{Room, Ready}
 use Rattle.settings.proofs.HeldRates.{limits-own, rate-held}
 
@@ -47,17 +43,6 @@ unfolding joining
 fitting-holds kind rate burst f = held-active (joining kind rate burst) (f .active)
 
 module _ (c : Control) (t : Tables) (sound : SoundCore c t) (id : ℕ) (below : id < ids) where
-  count-high : countAt (t .stocks) id ≤ places
-  unfolding stateOf sideOf stockAt
-  count-high =
-      let high = queue-high (clientsOf c t id .kind) (stocksOf t id .queue) (sound .limits .sideLimits .stockLimits id .queues) in
-      omega (
-        arith,
-        high,
-        queue-length t id,
-        ap (λ (k : Stock). length (k .queue)) (stock-own c t (sound .shape) id below),
-      )
-
   rates-high : c .rates ≤ shares
   unfolding stateOf
   rates-high = omega (arith, sound .shape .ratesHeld, sound .limits .ratesHigh, sound .limits .thresholdHigh)
@@ -71,4 +56,4 @@ module _ (c : Control) (t : Tables) (sound : SoundCore c t) (id : ℕ) (below : 
       (below, l, rate-held c t (sound .shape) id below (limits-own c t sound id below), omega (arith, rates-high))
 
   pub ready : Ready (t .stocks) (t .links) id
-  ready = (sound .shape .sound, below, sound .shape .heads id below, count-high)
+  ready = (sound .shape .sound, below, sound .shape .heads id below, count-high c t sound id below)

@@ -1,30 +1,33 @@
 -- A call that touches one client: what it must say of control and tables after, for the meaning to have one client anew and
 -- for the tables to stay laid out right. Whatever belongs to another id is as it was. Assumes nothing.
-use Prim.Native.Nat.{ℕ, zero, suc, _+_, _*_, _%_, _<_}
+use Prim.Native.Nat.{ℕ, zero, suc, _+_, _*_, _%_, _≤_, _<_}
 use mathlib.Core.Path.{_≡_, refl, sym, ap, ap₂, subst, fun-ext, _∙_}
 use mathlib.Core.Logic.{_≢_}
 use mathlib.Core.Bool.{Bool, true, false, cond, not, _&&_}
 use mathlib.Core.List.{List, [], _∷_, map}
 use native.Mathlib.Omega.{arith}
 use lib.Dec.{eqb, ltb}
+use lib.ListN.{length}
 use borrow.Author.Tests.{lt-ltb, ltb-true}
 use Rattle.definitions.specs.declared.Packet.{Packet}
 use Rattle.definitions.specs.Sizes.{ids, places}
 use Rattle.definitions.specs.Client.{isIndifferent, Client, nobody}
-use Rattle.definitions.specs.Stock.{bare}
+use Rattle.definitions.specs.Stock.{Stock, bare}
 use Rattle.definitions.specs.State.{put}
 use Rattle.definitions.specs.Checks.{rates}
 use Rattle.definitions.proofs.Laws.Tests.{eqb-cases}
 use Rattle.definitions.proofs.Laws.Clients.{put-cases}
 use Rattle.definitions.proofs.Laws.Rates.{held, rates-put}
+use Rattle.definitions.proofs.Limits.Stock.{queue-high}
 use Rattle.marks.specs.Marks.{marked}
 use Rattle.order.specs.Order.{Sound, Ordered}
 use Rattle.order.specs.Owner.{owner, placesOf}
 use Rattle.tables.specs.declared.Control.{Control}
 use Rattle.tables.specs.Tables.{Tables, rateColumn, burstColumn, levelColumn, poolColumn, headColumn, countColumn, headAt, countAt, ring}
-use Rattle.tables.specs.Meaning.{kindAt, packetAt, queueAt, clientAt, clientsOf, stockAt, stocksOf}
-use Rattle.tables.specs.Invariant.{Sized, Shape}
+use Rattle.tables.specs.Meaning.{kindAt, packetAt, queueAt, clientAt, clientsOf, stockAt, stocksOf, sideOf, stateOf}
+use Rattle.tables.specs.Invariant.{Sized, Shape, SoundCore}
 use Rattle.tables.proofs.Fields.{OnlyAt, place-owner}
+use Rattle.tables.proofs.QueueRing.{queue-length}
 
 -- what holds at one id, and at every other, holds at each
 pub at-each : (id : ℕ) (P : ℕ → Type 0) → P id → ((j : ℕ) → j ≢ id → P j) → (j : ℕ) → P j
@@ -175,3 +178,15 @@ module _ (c : Control) (t : Tables) (old : Shape c t) (id : ℕ) (below : id < i
   pub rates-kept : (x : Client) → held x ≡ held (clientAt c t id) → c .rates ≡ rates (put (clientsOf c t) id x)
   rates-kept x same =
       omega (arith, old .ratesHeld, rates-put (clientsOf c t) id x below, ap held client-own)
+
+-- no more packets of an id wait than it has places
+pub count-high : (c : Control) (t : Tables) → SoundCore c t → (id : ℕ) → id < ids → countAt (t .stocks) id ≤ places
+unfolding stateOf sideOf stockAt
+count-high c t sound id below =
+    let high = queue-high (clientsOf c t id .kind) (stocksOf t id .queue) (sound .limits .sideLimits .stockLimits id .queues) in
+    omega (
+      arith,
+      high,
+      queue-length t id,
+      ap (λ (k : Stock). length (k .queue)) (stock-own c t (sound .shape) id below),
+    )

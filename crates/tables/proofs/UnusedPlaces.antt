@@ -19,13 +19,14 @@ use Rattle.definitions.specs.Sizes.{ids, places}
 use Rattle.definitions.specs.Client.{isIndifferent, Client, nobody}
 use Rattle.definitions.specs.Stock.{bare}
 use Rattle.definitions.specs.State.{State, Core, unopened, running, fresh}
-use Rattle.definitions.specs.Checks.{Result, Check, accepted, refused, checked, unchanged, openChecks, rates}
+use Rattle.definitions.specs.Checks.{Result, unchanged, openChecks, rates}
 use Rattle.definitions.specs.Event.{Event, Open}
 use Rattle.definitions.specs.Calls.{onOpen}
 use Rattle.definitions.specs.Core.{step}
 use Rattle.definitions.specs.Limits.{StateLimits}
 use Rattle.definitions.specs.History.{History, start, _then_, Dealing, Trace, begin, _and_, pickOf, drawsOf}
 use Rattle.definitions.proofs.Laws.Tests.{eqb-same}
+use Rattle.definitions.proofs.Laws.Checked.{checked-anyway}
 use Rattle.marks.specs.Marks.{marked}
 use Rattle.order.specs.Order.{sentinel, nextOf, Joined, Linked, All, Absent, Ordered, walked}
 use Rattle.order.specs.Owner.{owner, placesOf}
@@ -44,6 +45,10 @@ use Rattle.tables.proofs.Fields.{places-positive, ring-length}
 use Rattle.tables.proofs.QueueRing.{packets-same}
 use Rattle.tables.proofs.Promises.{coreOf-opened}
 
+pub owner-below : (p : ℕ) → p < sentinel → owner p < ids
+unfolding owner sentinel
+owner-below p below = div-lt-iff-lt-mul places-positive .1 below
+
 -- each place of an order is one of its owner's
 module _ (P : ℕ → Type 0) where
   own-place : (p : ℕ) (order : List ℕ) → All P (placesOf (owner p) (p ∷ order)) → P p
@@ -58,10 +63,6 @@ module _ (P : ℕ → Type 0) where
       go : (b : Bool) → All P (cond b (p ∷ placesOf id order) (placesOf id order)) → All P (placesOf id order)
       go true all = all .1
       go false all = all
-
-  owner-below : (p : ℕ) → p < sentinel → owner p < ids
-  unfolding owner sentinel
-  owner-below p below = div-lt-iff-lt-mul places-positive .1 below
 
   placesOf-each : (order : List ℕ) → All (λ p. p < sentinel) order
       → ((id : ℕ) → id < ids → All P (placesOf id order))
@@ -194,9 +195,9 @@ module _ (c : Control) (t u : Tables) (valid : Valid c t) (differ : DifferUnused
       go true e = ap running (state-same c t u (valid e .shape) (differ e))
       go false e = refl
 
-  valid-same : Laid u → Valid c u
+  valid-same : (c .opened ≡ true → Laid u) → Valid c u
   valid-same laid e = record {
-    shape = shape-same c t u (valid e .shape) (differ e) laid;
+    shape = shape-same c t u (valid e .shape) (differ e) (laid e);
     limits = rw (state-same c t u (valid e .shape) (differ e)) (valid e .limits);
   }
 
@@ -244,32 +245,18 @@ indistinct same = record {
   calls = calls-same same;
 }
 
--- An open that is accepted leaves a fresh core; its checks ask nothing of the core before, so it is accepted by any.
-checked-accepted : (cs : List Check) (before other : Core) (s : State)
-    → checked cs (unchanged before) (accepted s) .answer ≡ Accepted
-    → checked cs (unchanged other) (accepted s) .core ≡ running s
-unfolding checked
-checked-accepted [] before other s e = refl
-checked-accepted (c ∷ cs) before other s e = go (c .passed) (checked-accepted cs before other s) e
-  where
-    go : (b : Bool)
-        → (checked cs (unchanged before) (accepted s) .answer ≡ Accepted
-        → checked cs (unchanged other) (accepted s) .core ≡ running s)
-        → cond b (checked cs (unchanged before) (accepted s)) (refused (c .number) before) .answer ≡ Accepted
-        → cond b (checked cs (unchanged other) (accepted s)) (refused (c .number) other) .core ≡ running s
-    go true rest e = rest e
-    go false rest e = let no : _≡_ {A = ℕ} 0 1 = cc in absurd (omega arith)
-
-module _ {threshold discipline seed : ℕ} {c d : Control} {t u v w : Tables} {r q : Answered}
-    (m : Meets (Open threshold discipline seed) c t r v) (n : Meets (Open threshold discipline seed) d u q w)
-    (accepts : r .answer ≡ Accepted)
-  where
-    fresh-after : coreOf (q .control) w ≡ running (fresh threshold discipline seed)
-    unfolding step onOpen
-    fresh-after =
-        n .core
-        ∙ checked-accepted (openChecks threshold discipline seed) (coreOf c t) (coreOf d u) (fresh threshold discipline seed)
-        (sym (m .answer) ∙ accepts)
+-- an open that is accepted leaves a fresh core, and since its checks ask nothing of the core before, any core accepts it
+fresh-after : {threshold discipline seed : ℕ} {c d : Control} {t u v w : Tables} {r q : Answered}
+    → Meets (Open threshold discipline seed) c t r v
+    → Meets (Open threshold discipline seed) d u q w
+    → r .answer ≡ Accepted
+    → coreOf (q .control) w ≡ running (fresh threshold discipline seed)
+unfolding step onOpen
+fresh-after {threshold} {discipline} {seed} {c} {d} {t} {u} m n accepts =
+    n .core
+    ∙ ap (λ (x : Result). x .core)
+    (checked-anyway (openChecks threshold discipline seed) (unchanged (coreOf c t)) (unchanged (coreOf d u))
+    (fresh threshold discipline seed) (sym (m .answer) ∙ accepts))
 
 -- other numbers at a place where no packet waits
 module _ (t : Tables) (place handle length : ℕ) (unused : Unused t place) where

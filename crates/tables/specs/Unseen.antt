@@ -63,7 +63,7 @@ Unused t place = (id : ℕ) → id < ids → Absent place (waitingPlaces t id)
 pub record UnusedUnseen : Type 0 where
   pub indistinct : (c : Control) (t u : Tables) → Valid c t → DifferUnused c t u → Indistinct c t c u
   -- and on the other core, too, any call may be made
-  pub valid : (c : Control) (t u : Tables) → Valid c t → DifferUnused c t u → Laid u → Valid c u
+  pub valid : (c : Control) (t u : Tables) → Valid c t → DifferUnused c t u → (c .opened ≡ true → Laid u) → Valid c u
   -- there are such cores: a place where no packet waits may hold any numbers
   pub overwriting : (c : Control) (t : Tables) (place handle length : ℕ)
       → Valid c t → Unused t place → DifferUnused c t (overwritten t place handle length)

@@ -49,14 +49,20 @@ checked-rel R (c ∷ cs) b b′ d d′ r e = go (c .passed) (checked-rel R cs b 
 pub refused-differs : {a : Answer} {n : ℕ} → a ≡ Refused n → a ≢ Accepted
 refused-differs e d = let z : _≡_ {A = ℕ} 0 1 = cc in omega arith
 
--- a checked call that is accepted has the core that was to be made
+-- a call that is accepted would be so whatever a refusal left
+pub checked-anyway : (cs : List Check) (left other : ℕ → Core) (s : State)
+    → checked cs left (accepted s) .answer ≡ Accepted
+    → checked cs other (accepted s) ≡ accepted s
+checked-anyway cs left other s =
+    checked-rel (λ r q. r .answer ≡ Accepted → q ≡ accepted s) cs left other (accepted s) (accepted s)
+    (λ n e. absurd (refused-differs refl e))
+    (λ e. refl)
+
+-- and it has the core that was to be made
 pub checked-accepted : (cs : List Check) (left : ℕ → Core) (s : State)
     → checked cs left (accepted s) .answer ≡ Accepted
     → checked cs left (accepted s) ≡ accepted s
-checked-accepted cs left s =
-    checked-cases (λ r. r .answer ≡ Accepted → r ≡ accepted s) cs left (accepted s)
-    (λ n e. absurd (refused-differs refl e))
-    (λ passed e. refl)
+checked-accepted cs left = checked-anyway cs left left
 
 -- and one that is not keeps the core, where every refusal does
 pub checked-kept : (cs : List Check) (before : Core) (s : State)
