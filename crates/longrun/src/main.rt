@@ -1,46 +1,24 @@
 // Makes long runs of calls and prints the check of their answers: the first argument is the seed, the second how many blocks.
 // What is called and what is checked is decided in `runs`.
 use libc::STDERR_FILENO;
-use libc::STDOUT_FILENO;
 use order::LINKS;
 use parser::Word;
 use tables::STOCKS;
 use tables::STORE;
 use tables::TERMS;
+use tally::BLOCK;
 ghost use mathlib.Core.Path.{_≡_};
 ghost use Prim.Native.Nat.{_*_};
 ghost use Rattle.runs.specs.LongRun.{block, after};
 
-// How many calls a block has.
-const BLOCK: u32 = 1000000;
-
 // The program's name, the seed and the number of blocks.
 const ARGUMENTS: usize = 3;
 
-// More than the digits of any number that is taken.
-const ROOM: usize = 16;
-
-fn calls_in(blocks: u32) -> u64
-    ensures { λ r. ⌜ r ≡ blocks * block ⌝ }
-{
-    tables::wide(blocks) * (BLOCK as u64)
-}
-
-// Prints the line of the last of so many blocks, and gives whether it could be written whole; if not, that is told on standard error. The
-// seed stands here for the contract: what is printed is its check.
+// Prints the line of the last of so many blocks. The seed stands here for the contract: what is printed is its check.
 fn tell(seed: u32, blocks: u32, check: u32) -> bool
     requires { ⌜ check ≡ after seed (blocks * block) .check ⌝ }
 {
-    if io::write_all(STDOUT_FILENO, b"(calls ")
-        && io::print_decimal(STDOUT_FILENO, calls_in(blocks))
-        && io::write_all(STDOUT_FILENO, b" check ")
-        && io::print_decimal(STDOUT_FILENO, tables::wide(check))
-        && io::write_all(STDOUT_FILENO, b")\n")
-    {
-        return true;
-    }
-    os::fail(b"longrun: standard output");
-    false
+    tally::print_line(blocks, check, b"longrun: standard output")
 }
 
 // So many blocks from a seed, with a line after each. It ends at a line that could not be written.
@@ -82,13 +60,6 @@ fn run(seed: u32, count: u32) {
     );
 }
 
-// The number that an argument is.
-fn argument(i: usize) -> Word {
-    let mut room = [0u8; ROOM];
-    let length = os::arg(i, &mut room);
-    parser::number(&room[..length])
-}
-
 fn usage() {
     io::write_all(STDERR_FILENO, b"usage: longrun SEED BLOCKS\n");
 }
@@ -98,12 +69,12 @@ fn main() {
         usage();
         return;
     }
-    let first = argument(1);
+    let first = tally::argument(1);
     let Word::Number { value: seed } = first else {
         usage();
         return;
     };
-    let second = argument(2);
+    let second = tally::argument(2);
     let Word::Number { value: count } = second else {
         usage();
         return;

@@ -5,7 +5,6 @@ use Prim.Native.Nat.{ℕ, zero, suc}
 use mathlib.Core.Path.{_≡_, refl, sym, ap, _∙_}
 use mathlib.Core.Bool.{Bool, true, false, cond}
 use lib.Dec.{eqb}
-use Rattle.definitions.specs.declared.Answer.the-variants.{Accepted}
 use Rattle.definitions.specs.Sizes.{shares, weightedDraw}
 use Rattle.definitions.specs.Generator.{xorLeft, xorRight, stepped}
 use Rattle.definitions.specs.State.{Core, unopened, fresh}

@@ -4,7 +4,6 @@
 use definitions::PLACES;
 use generator::Generator;
 use libc::STDERR_FILENO;
-use libc::STDOUT_FILENO;
 use order::END;
 use order::LINKS;
 use parser::Word;
@@ -14,6 +13,7 @@ use tables::HEAD;
 use tables::STOCKS;
 use tables::STORE;
 use tables::TERMS;
+use tally::BLOCK;
 ghost use mathlib.Core.Path.{_≡_};
 ghost use Prim.Native.Nat.{_*_, _<_};
 ghost use Rattle.order.specs.Order.{sentinel};
@@ -24,18 +24,13 @@ ghost use Rattle.runs.specs.Stands.{Goes};
 ghost use Rattle.remains.specs.Remains.{waitsAt, soiledAt, soiled};
 ghost use Rattle.remains.specs.Started.{stretch, started, Starts};
 
-// How many calls a block has, how many are made between two overwritings, and how many such stretches a block has.
-const BLOCK: u32 = 1000000;
-
+// How many calls are made between two overwritings, and how many such stretches a block has.
 const STRETCH: u32 = 1000;
 
 const STRETCHES: u32 = BLOCK / STRETCH;
 
 // The program's name, the seed, the number of blocks, the number that remains and the earlier seed.
 const ARGUMENTS: usize = 5;
-
-// More than the digits of any number that is taken.
-const ROOM: usize = 16;
 
 // Whether a packet waits at a place. Before the first open anything stands in the stocks.
 fn waits_at(stocks: &[u32; STOCKS], place: u32) -> bool
@@ -156,27 +151,11 @@ fn start(
     }
 }
 
-fn calls_in(blocks: u32) -> u64
-    ensures { λ r. ⌜ r ≡ blocks * block ⌝ }
-{
-    tables::wide(blocks) * (BLOCK as u64)
-}
-
-// Prints the line of the last of so many blocks, and gives whether it could be written whole; if not, that is told on standard
-// error. The seeds stand here for the contract: what is printed is their check.
+// Prints the line of the last of so many blocks. The seeds stand here for the contract: what is printed is their check.
 fn tell(earlier: u32, seed: u32, blocks: u32, check: u32) -> bool
     requires { ⌜ check ≡ further (blocks * block) (started earlier seed) .check ⌝ }
 {
-    if io::write_all(STDOUT_FILENO, b"(calls ")
-        && io::print_decimal(STDOUT_FILENO, calls_in(blocks))
-        && io::write_all(STDOUT_FILENO, b" check ")
-        && io::print_decimal(STDOUT_FILENO, tables::wide(check))
-        && io::write_all(STDOUT_FILENO, b")\n")
-    {
-        return true;
-    }
-    os::fail(b"remains: standard output");
-    false
+    tally::print_line(blocks, check, b"remains: standard output")
 }
 
 // So many blocks from a seed, with a line after each. It ends at a line that could not be written.
@@ -222,13 +201,6 @@ fn run(seed: u32, count: u32, number: u32, earlier: u32) {
     );
 }
 
-// The number that an argument is.
-fn argument(i: usize) -> Word {
-    let mut room = [0u8; ROOM];
-    let length = os::arg(i, &mut room);
-    parser::number(&room[..length])
-}
-
 fn usage() {
     io::write_all(
         STDERR_FILENO,
@@ -241,22 +213,22 @@ fn main() {
         usage();
         return;
     }
-    let first = argument(1);
+    let first = tally::argument(1);
     let Word::Number { value: seed } = first else {
         usage();
         return;
     };
-    let second = argument(2);
+    let second = tally::argument(2);
     let Word::Number { value: count } = second else {
         usage();
         return;
     };
-    let third = argument(3);
+    let third = tally::argument(3);
     let Word::Number { value: number } = third else {
         usage();
         return;
     };
-    let fourth = argument(4);
+    let fourth = tally::argument(4);
     let Word::Number { value: earlier } = fourth else {
         usage();
         return;

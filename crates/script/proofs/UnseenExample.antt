@@ -1,16 +1,15 @@
 -- A core with a packet waiting: the tables that opening fills, after a join and an arrival as those calls' promises have them.
 -- What it means is computed over the definitions, and so are its answers. Assumes nothing.
-use Prim.Native.Nat.{ℕ, zero, suc, _+_, _<_}
-use mathlib.Core.Path.{_≡_, refl, sym, ap, ap₂, subst, _∙_}
+use Prim.Native.Nat.{ℕ, zero, suc}
+use mathlib.Core.Path.{_≡_, refl, sym, ap, _∙_}
 use mathlib.Core.Logic.{_≢_}
-use mathlib.Core.Bool.{Bool, true, false, cond, _||_, _&&_}
+use mathlib.Core.Bool.{Bool, true, false, _||_, _&&_}
 use mathlib.Core.List.{List, [], _∷_}
 use native.Mathlib.Omega.{arith}
 use lib.Dec.{eqb, ltb}
-use lib.ListN.{length, set}
+use lib.ListN.{set}
 use lib.Seq.{set-set}
 use borrow.Author.Tests.{ne-eqb}
-use Rattle.definitions.specs.declared.Packet.{Packet}
 use Rattle.definitions.specs.declared.Outcome.the-variants.{Real}
 use Rattle.definitions.specs.declared.Answer.the-variants.{Accepted, Slot}
 use Rattle.definitions.specs.Sizes.{ids, places}
@@ -30,7 +29,6 @@ use Rattle.tables.specs.declared.Answered.{Answered}
 use Rattle.tables.specs.Tables.{Tables, field, headAt, countAt, ring}
 use Rattle.tables.specs.Controls.{withRates, withMarks, withWaiting}
 use Rattle.tables.specs.Meaning.{stateOf, coreOf}
-use Rattle.tables.specs.Invariant.{Valid}
 use Rattle.tables.specs.Numbers.{firstFailed, refusal}
 use Rattle.tables.specs.Promise.{Meets}
 use Rattle.tables.specs.Places.{waitingPlaces}
@@ -40,7 +38,7 @@ use Rattle.tables.proofs.MarkedKinds.{kind-indifferent}
 use Rattle.tables.proofs.Promises.{coreOf-opened}
 use Rattle.opening.proofs.EmptyTables.{emptyControl, emptyTables}
 use Rattle.opening.proofs.OpenPromise.{open-accepted}
-use Rattle.settings.specs.Writes.{ratesAfter, Remarked, Recast, Quiet}
+use Rattle.settings.specs.Writes.{ratesAfter, Recast, Quiet}
 use Rattle.settings.proofs.Emptying.{emptiedTables}
 use Rattle.settings.proofs.Placing.{placedTables}
 use Rattle.settings.proofs.JoinPromise.{join-accepted}

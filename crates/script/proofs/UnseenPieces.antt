@@ -1,7 +1,7 @@
 -- Places where no packet waits do not show in what is printed: pieces go by what the tables mean, and chain. Assumes nothing.
 use Prim.Native.Nat.{ℕ, _≤_}
 use mathlib.Core.Path.{_≡_, refl, sym, ap, _∙_}
-use mathlib.Core.List.{List, [], _++_, append-assoc, append-cancel-right}
+use mathlib.Core.List.{List, _++_, append-assoc, append-cancel-right}
 use native.Mathlib.Omega.{arith}
 use lib.ListN.{take}
 use Rattle.definitions.specs.State.{Core}

@@ -1,7 +1,7 @@
 -- What stands in places where no packet waits is never seen. The meaning reads the places of the queues, and those of the order,
 -- which are places of indifferent queues; so two cores that are the same there mean one core. Calls that keep their promise go by
 -- the meaning alone, so they cannot tell them apart, however many follow: by induction over the calls. Assumes nothing.
-use Prim.Native.Nat.{ℕ, _*_, _<_}
+use Prim.Native.Nat.{ℕ, _<_}
 use mathlib.Core.Path.{_≡_, refl, sym, ap, ap₂, subst, fun-ext, _∙_}
 use mathlib.Core.Logic.{_≢_}
 use mathlib.Core.Bool.{Bool, true, false, cond, not, _&&_}
@@ -9,41 +9,37 @@ use mathlib.Core.List.{List, [], _∷_, map}
 use native.Mathlib.Nat.{div-lt-iff-lt-mul}
 use native.Mathlib.Omega.{arith}
 use lib.Dec.{eqb, ltb}
-use lib.ListN.{length, getD, set}
+use lib.ListN.{length, getD}
 use lib.Seq.{getD-set-other}
-use borrow.Author.Tests.{ltb-true, lt-ltb}
-use Rattle.definitions.specs.declared.Packet.{Packet}
-use Rattle.definitions.specs.declared.Answer.{Answer}
+use borrow.Author.Tests.{ltb-true}
 use Rattle.definitions.specs.declared.Answer.the-variants.{Accepted}
 use Rattle.definitions.specs.Sizes.{ids, places}
-use Rattle.definitions.specs.Client.{isIndifferent, Client, nobody}
+use Rattle.definitions.specs.Client.{isIndifferent}
 use Rattle.definitions.specs.Stock.{bare}
-use Rattle.definitions.specs.State.{State, Core, unopened, running, fresh}
+use Rattle.definitions.specs.State.{Core, unopened, running, fresh}
 use Rattle.definitions.specs.Checks.{Result, unchanged, openChecks, rates}
 use Rattle.definitions.specs.Event.{Event, Open}
 use Rattle.definitions.specs.Calls.{onOpen}
 use Rattle.definitions.specs.Core.{step}
-use Rattle.definitions.specs.Limits.{StateLimits}
-use Rattle.definitions.specs.History.{History, start, _then_, Dealing, Trace, begin, _and_, pickOf, drawsOf}
+use Rattle.definitions.specs.History.{Trace, _and_, pickOf, drawsOf}
 use Rattle.definitions.proofs.Laws.Tests.{eqb-same}
 use Rattle.definitions.proofs.Laws.Checked.{checked-anyway}
 use Rattle.marks.specs.Marks.{marked}
-use Rattle.order.specs.Order.{sentinel, nextOf, Joined, Linked, All, Absent, Ordered, walked}
+use Rattle.order.specs.Order.{sentinel, Linked, All, Ordered}
 use Rattle.order.specs.Owner.{owner, placesOf}
 use Rattle.order.proofs.DistinctLists.{all-map}
 use Rattle.order.proofs.OrderWalk.{ordered-walked}
 use Rattle.tables.specs.declared.Control.{Control}
 use Rattle.tables.specs.declared.Answered.{Answered}
-use Rattle.tables.specs.Tables.{Tables, poolAt, headAt, countAt, ring}
+use Rattle.tables.specs.Tables.{Tables, headAt, countAt, ring}
 use Rattle.tables.specs.Meaning.{kindAt, packetAt, queueAt, clientAt, clientsOf, stockAt, stocksOf, orderOf, sideOf, stateOf, coreOf}
-use Rattle.tables.specs.Invariant.{Sized, Shape, SoundCore, Valid}
+use Rattle.tables.specs.Invariant.{Shape, Valid}
 use Rattle.tables.specs.Promise.{Meets}
 use Rattle.tables.specs.Run.{dealing, callsOf}
 use Rattle.tables.specs.Places.{waitingPlaces, SameLinks, SamePlace, SameWhereWaiting, DifferUnused}
 use Rattle.tables.specs.Unseen.{CallsFrom, here, called, Indistinct, Laid, overwritten, Unused, UnusedUnseen}
 use Rattle.tables.proofs.Fields.{places-positive, ring-length}
 use Rattle.tables.proofs.QueueRing.{packets-same}
-use Rattle.tables.proofs.Promises.{coreOf-opened}
 
 pub owner-below : (p : ℕ) → p < sentinel → owner p < ids
 unfolding owner sentinel

@@ -4,19 +4,17 @@
 -- UnseenOnPaper.
 use Prim.Native.Nat.{ℕ, _<_}
 use mathlib.Core.Path.{_≡_}
-use mathlib.Core.Logic.{_≢_}
 use mathlib.Core.Bool.{true}
-use mathlib.Core.List.{List}
 use lib.ListN.{set}
 use Rattle.definitions.specs.Sizes.{ids, places}
 use Rattle.definitions.specs.declared.Answer.the-variants.{Accepted}
 use Rattle.definitions.specs.Event.{Event, Open}
 use Rattle.definitions.specs.History.{Trace, begin, _and_}
-use Rattle.order.specs.Order.{Sound, Absent, All}
+use Rattle.order.specs.Order.{Sound, Absent}
 use Rattle.tables.specs.declared.Control.{Control}
 use Rattle.tables.specs.declared.Answered.{Answered}
 use Rattle.tables.specs.Tables.{Tables, tables, headAt}
-use Rattle.tables.specs.Meaning.{packetAt, coreOf}
+use Rattle.tables.specs.Meaning.{coreOf}
 use Rattle.tables.specs.Invariant.{Sized, Valid}
 use Rattle.tables.specs.Promise.{Meets}
 use Rattle.tables.specs.Run.{dealing, callsOf}
