@@ -13,8 +13,7 @@ use Rattle.tables.specs.declared.Control.{Control}
 use Rattle.tables.specs.Tables.{Tables, tables, headAt, countAt}
 use Rattle.tables.specs.Meaning.{packetAt}
 use Rattle.tables.specs.Invariant.{Sized, Valid}
-use Rattle.tables.specs.Places.{DifferUnused}
-use Rattle.tables.specs.Unseen.{Unused}
+use Rattle.tables.specs.Unused.{DifferUnused, Unused}
 
 -- how many places a place lies behind the head of its id's queue, in the ring; any number may stand as the head
 unfoldable pub behindHead : List ℕ → ℕ → ℕ
@@ -25,23 +24,24 @@ unfoldable pub waitsAt : List ℕ → ℕ → Bool
 waitsAt stocks place = ltb (behindHead stocks place) (countAt stocks (owner place))
 
 -- a table of the places with a number written into one where no packet waits
-unfoldable pub soiledAt : List ℕ → ℕ → ℕ → List ℕ → List ℕ
-soiledAt stocks number place table = cond (waitsAt stocks place) table (set table place number)
+unfoldable pub overwrittenAt : List ℕ → ℕ → ℕ → List ℕ → List ℕ
+overwrittenAt stocks number place table = cond (waitsAt stocks place) table (set table place number)
 
 -- the same for the first n places, and for all
-unfoldable pub soiledBelow : ℕ → List ℕ → ℕ → List ℕ → List ℕ
-soiledBelow zero stocks number table = table
-soiledBelow (suc n) stocks number table = soiledAt stocks number n (soiledBelow n stocks number table)
+unfoldable pub overwrittenBelow : ℕ → List ℕ → ℕ → List ℕ → List ℕ
+overwrittenBelow zero stocks number table = table
+overwrittenBelow (suc n) stocks number table = overwrittenAt stocks number n (overwrittenBelow n stocks number table)
 
-unfoldable pub soiled : List ℕ → ℕ → List ℕ → List ℕ
-soiled stocks number table = soiledBelow sentinel stocks number table
+unfoldable pub overwrittenUnused : List ℕ → ℕ → List ℕ → List ℕ
+overwrittenUnused stocks number table = overwrittenBelow sentinel stocks number table
 
-abbrev pub soiledTables : ℕ → Tables → Tables
-soiledTables number t =
-    tables (t .terms) (t .stocks) (soiled (t .stocks) number (t .handles)) (soiled (t .stocks) number (t .lengths)) (t .links)
+abbrev pub overwrittenTables : ℕ → Tables → Tables
+overwrittenTables number t =
+    tables (t .terms) (t .stocks) (overwrittenUnused (t .stocks) number (t .handles))
+    (overwrittenUnused (t .stocks) number (t .lengths)) (t .links)
 
 -- every place where no packet waits is overwritten, and the tables differ there alone
-pub record UnusedSoiled : Type 0 where
+pub record UnusedOverwritten : Type 0 where
   pub written : (t : Tables) (number place : ℕ) → Sized t → place < sentinel → Unused t place
-      → packetAt (soiledTables number t) place ≡ record { handle = number; length = number }
-  pub differ : (c : Control) (t : Tables) (number : ℕ) → Valid c t → DifferUnused c t (soiledTables number t)
+      → packetAt (overwrittenTables number t) place ≡ record { handle = number; length = number }
+  pub differ : (c : Control) (t : Tables) (number : ℕ) → Valid c t → DifferUnused c t (overwrittenTables number t)

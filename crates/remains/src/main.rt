@@ -21,7 +21,7 @@ ghost use Rattle.tables.specs.Tables.{tables};
 ghost use Rattle.tables.specs.Invariant.{Valid};
 ghost use Rattle.runs.specs.LongRun.{block, further};
 ghost use Rattle.runs.specs.Stands.{Goes};
-ghost use Rattle.remains.specs.Remains.{waitsAt, soiledAt, soiled};
+ghost use Rattle.remains.specs.Remains.{waitsAt, overwrittenAt, overwrittenUnused};
 ghost use Rattle.remains.specs.Started.{stretch, started, Starts};
 
 // How many calls are made between two overwritings, and how many such stretches a block has.
@@ -53,8 +53,8 @@ fn overwrite_at(
     number: u32,
 )
     requires { ⌜ place < sentinel ⌝ }
-    ensures { λ r. ⌜ now (handles .exit) ≡ soiledAt (now (stocks .entry)) number place (now (handles .entry)) ⌝ }
-    ensures { λ r. ⌜ now (lengths .exit) ≡ soiledAt (now (stocks .entry)) number place (now (lengths .entry)) ⌝ }
+    ensures { λ r. ⌜ now (handles .exit) ≡ overwrittenAt (now (stocks .entry)) number place (now (handles .entry)) ⌝ }
+    ensures { λ r. ⌜ now (lengths .exit) ≡ overwrittenAt (now (stocks .entry)) number place (now (lengths .entry)) ⌝ }
 {
     if waits_at(stocks, place) {
         return;
@@ -71,8 +71,8 @@ fn overwrite_unused(
     lengths: &mut [u32; STORE],
     number: u32,
 )
-    ensures { λ r. ⌜ now (handles .exit) ≡ soiled (now (stocks .entry)) number (now (handles .entry)) ⌝ }
-    ensures { λ r. ⌜ now (lengths .exit) ≡ soiled (now (stocks .entry)) number (now (lengths .entry)) ⌝ }
+    ensures { λ r. ⌜ now (handles .exit) ≡ overwrittenUnused (now (stocks .entry)) number (now (handles .entry)) ⌝ }
+    ensures { λ r. ⌜ now (lengths .exit) ≡ overwrittenUnused (now (stocks .entry)) number (now (lengths .entry)) ⌝ }
 {
     let mut place: u32 = 0;
     while place < END {
@@ -81,7 +81,7 @@ fn overwrite_unused(
     }
 }
 
-// Makes a stretch of calls, and soils what they left clean.
+// Makes a stretch of calls, and overwrites what they left where no packet waits.
 fn stretch(
     progress: Progress,
     terms: &mut [u32; TERMS],

@@ -67,6 +67,26 @@ piece-done {text} {at} {out = out} {r} w full still bare ended = record {
   ended = ended;
 }
 
+-- a piece behind some bytes: what was written, with what is ahead, stays what it was
+pub piece-printed : {text : List ℕ} {at : ℕ} {c : Control} {t : Tables} {out : List ℕ} {r : Progress} {u : Tables} {all : List ℕ}
+    (bytes : List ℕ)
+    → Piece text at c t out r u
+    → bytes ++ ahead (coreOf c t) text at ≡ all
+    → (bytes ++ take (r .written) out) ++ ahead (coreOf (r .control) u) text (r .next) ≡ all
+piece-printed {text} {out = out} {r} {u} bytes p before =
+    append-assoc bytes (take (r .written) out) (ahead (coreOf (r .control) u) text (r .next))
+    ∙ ap (λ (l : List ℕ). bytes ++ l) (p .walked .printed)
+    ∙ before
+
+-- and the core goes on as another does, if the one before it did
+pub piece-alike : {text : List ℕ} {at : ℕ} {c : Control} {t : Tables} {out : List ℕ} {r : Progress} {u : Tables}
+    {other : ℕ → Core}
+    → Piece text at c t out r u
+    → ((upto : ℕ) → at ≤ upto → coreBehind (coreOf c t) text at upto ≡ other upto)
+    → (upto : ℕ) → r .next ≤ upto
+    → coreBehind (coreOf (r .control) u) text (r .next) upto ≡ other upto
+piece-alike p before upto past = p .walked .core upto past ∙ before upto (omega (arith, p .walked .forth, past))
+
 -- ---- before the first piece
 
 module _ (text : List ℕ) (c : Control) (new : (t : Tables) → (coreOf c t ≡ unopened) × Valid c t) where
@@ -115,10 +135,7 @@ sofar : (text bytes : List ℕ) (at : ℕ) (c : Control) (t : Tables) → Writte
     → bytes ++ ahead (coreOf c t) text at ≡ printout text
 sofar text _ _ _ t (started {out} {r} s room) =
     ap (λ (x : Core). take (r .written) out ++ ahead x text (r .next)) (s .core t .0) ∙ s .printed room
-sofar text _ _ _ u (piece {bytes} {at} {c} {t} {out = out} {r} w p) =
-    append-assoc bytes (take (r .written) out) (ahead (coreOf (r .control) u) text (r .next))
-    ∙ ap (λ (l : List ℕ). bytes ++ l) (p .walked .printed)
-    ∙ sofar text bytes at c t w
+sofar text _ _ _ u (piece {bytes} {at} {c} {t} w p) = piece-printed bytes p (sofar text bytes at c t w)
 
 -- the core goes with the text up to any later place as the unopened core does from the first byte
 alike : (text bytes : List ℕ) (at : ℕ) (c : Control) (t : Tables) → Written text bytes at c t → length text ≤ textLimit
@@ -127,8 +144,8 @@ alike : (text bytes : List ℕ) (at : ℕ) (c : Control) (t : Tables) → Writte
 alike text _ _ _ t (started {out} {r} s room) short upto past =
     let first : r .next ≡ 0 = rw (le-ltb textLimit (length text) short) at (s .next) in
     λ i. coreBehind (s .core t .0 i) text (first i) upto
-alike text _ _ _ u (piece {bytes} {at} {c} {t} {out = out} {r} w p) short upto past =
-    p .walked .core upto past ∙ alike text bytes at c t w short upto (omega (arith, p .walked .forth, past))
+alike text _ _ _ u (piece {bytes} {at} {c} {t} w p) short upto past =
+    piece-alike p (λ place behind. alike text bytes at c t w short place behind) upto past
 
 core : (text bytes : List ℕ) (at : ℕ) (c : Control) (t : Tables) → Written text bytes at c t → length text ≤ textLimit
     → coreOf c t ≡ coreFrom unopened [] (take at text)

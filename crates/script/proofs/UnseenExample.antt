@@ -18,6 +18,7 @@ use Rattle.definitions.specs.Checks.{joinChecks, arriveChecks}
 use Rattle.definitions.specs.Client.{kindOf}
 use Rattle.definitions.specs.State.{State, Core, unopened, running, fresh}
 use Rattle.definitions.specs.Core.{step}
+use Rattle.definitions.specs.History.{Trace, begin, _and_}
 use Rattle.definitions.proofs.Laws.Tests.{true-false}
 use Rattle.definitions.proofs.Everything.{everything}
 use Rattle.marks.specs.Marks.{marked}
@@ -31,11 +32,12 @@ use Rattle.tables.specs.Controls.{withRates, withMarks, withWaiting}
 use Rattle.tables.specs.Meaning.{stateOf, coreOf}
 use Rattle.tables.specs.Numbers.{firstFailed, refusal}
 use Rattle.tables.specs.Promise.{Meets}
-use Rattle.tables.specs.Places.{waitingPlaces}
-use Rattle.tables.specs.Unseen.{overwritten, Unused}
+use Rattle.tables.specs.Run.{dealing, Reached, begun, called, callsOf}
+use Rattle.tables.specs.Unused.{waitingPlaces, Unused, overwritten}
 use Rattle.tables.proofs.Fields.{place-owner}
 use Rattle.tables.proofs.MarkedKinds.{kind-indifferent}
-use Rattle.tables.proofs.Promises.{coreOf-opened}
+use Rattle.tables.proofs.Promises.{coreOf-opened, coreOf-shut}
+use Rattle.tables.proofs.UnusedPlaces.{unused-unseen}
 use Rattle.opening.proofs.EmptyTables.{emptyControl, emptyTables}
 use Rattle.opening.proofs.OpenPromise.{open-accepted}
 use Rattle.settings.specs.Writes.{ratesAfter, Recast, Quiet}
@@ -51,12 +53,18 @@ accepting c = record { control = c; answer = Accepted }
 
 -- ---- opened
 
+abbrev openEvent : Event
+openEvent = Open 1024 0 1
+
+abbrev c₀ : Control
+c₀ = emptyControl false 0 0 0
+
 abbrev c₁ : Control
 c₁ = emptyControl true 1024 0 1
 
-met₁ : Meets (Open 1024 0 1) (emptyControl false 0 0 0) emptyTables (accepting c₁) emptyTables
+met₁ : Meets openEvent c₀ emptyTables (accepting c₁) emptyTables
 unfolding everything firstFailed
-met₁ = open-accepted (emptyControl false 0 0 0) emptyTables (λ e. true-false e refl) 1024 0 1 (accepting c₁) refl refl
+met₁ = open-accepted c₀ emptyTables (λ e. true-false e refl) 1024 0 1 (accepting c₁) refl refl
 
 core₁ : coreOf c₁ emptyTables ≡ running (fresh 1024 0 1)
 unfolding coreOf everything
@@ -171,9 +179,9 @@ module _ (handle : ℕ) where
   unfolding waitingPlaces ring field ids places
   waits = refl
 
-  unused : Unused t₃ 1
-  unused zero below = rw waits (λ e. omega arith, tt)
-  unused (suc id) below =
+  second-unused : Unused t₃ 1
+  second-unused zero below = rw waits (λ e. omega arith, tt)
+  second-unused (suc id) below =
       unfold waitingPlaces in
       second-elsewhere (suc id) (headAt (t₃ .stocks) (suc id)) (countAt (t₃ .stocks) (suc id)) (λ e. omega arith)
 
@@ -193,13 +201,27 @@ another-handle handle another = λ i. record {
   links = t₃ handle .links;
 }
 
+abbrev calledTrace : ℕ → Trace
+calledTrace handle =
+    begin
+    and dealing openEvent c₀ emptyTables (accepting c₁)
+    and dealing joinEvent c₁ emptyTables (accepting c₂)
+    and dealing (arriveEvent handle) c₂ t₂ (accepting c₃)
+
+reached : (handle : ℕ) → Reached (calledTrace handle) c₃ (t₃ handle)
+reached handle = called (called (called (begun (coreOf-shut c₀ emptyTables refl)) met₁) met₂) (met₃ handle)
+
 pub unseen-example : UnseenExample
+unfolding callsOf
 unseen-example = record {
   control = c₃;
   tables = t₃;
-  valid = λ handle. met₃ handle .valid;
+  trace = calledTrace;
+  reached = reached;
+  called = λ handle. refl;
   waits = waits;
-  unused = unused;
+  unused = λ handle another length.
+      unused-unseen .overwriting c₃ (t₃ handle) 1 another length (met₃ handle .valid) (second-unused handle) .0;
   other = another-handle;
   sends = sends;
 }

@@ -11,8 +11,9 @@ use Rattle.tables.specs.Tables.{Tables}
 use Rattle.tables.specs.Meaning.{coreOf}
 use Rattle.tables.specs.Invariant.{Valid}
 use Rattle.tables.specs.Run.{callsOf}
-use Rattle.tables.specs.Places.{DifferUnused}
-use Rattle.tables.specs.Unseen.{CallsFrom}
+use Rattle.tables.specs.Unused.{DifferUnused}
+use Rattle.tables.specs.Promise.{Meets}
+use Rattle.tables.specs.CallsFrom.{CallsFrom}
 use Rattle.script.specs.declared.Progress.{Progress}
 use Rattle.script.specs.Pieces.{Piece}
 
@@ -36,8 +37,8 @@ pub record UnseenOnPaper : Type 0 where
       → Valid c t
       → DifferUnused c t u
       → (first second : Trace) (d e : Control) (v w : Tables)
-      → CallsFrom c t first d v
-      → CallsFrom c u second e w
+      → CallsFrom Meets c t first d v
+      → CallsFrom Meets c u second e w
       → callsOf second ≡ callsOf first
       → linesOf second ≡ linesOf first
   -- Both are given the same text from the same place on, in pieces of any length. Wherever both have come to the same place, the

@@ -8,4 +8,5 @@ pub mod QueueRing
 pub mod Touch
 pub mod PoolWritten
 pub mod Runs
+pub mod StandingPlaces
 pub mod UnusedPlaces

@@ -23,7 +23,7 @@ use Rattle.tables.specs.Meaning.{stateOf, coreOf}
 use Rattle.tables.specs.Invariant.{Shape, SoundCore, Valid}
 use Rattle.tables.specs.Numbers.{firstFailed, refusal}
 use Rattle.tables.specs.Promise.{Meets}
-use Rattle.tables.specs.Places.{writesPlaces, Promised}
+use Rattle.tables.specs.Places.{mayWrite, Promised}
 
 -- no check has the number 0
 abbrev pub numbered : List Check → Bool
@@ -176,8 +176,8 @@ in-place handles lengths m = record { meets = m; stand = λ none. record { handl
 
 -- and one that does, once it is accepted
 pub with-places : {call : Event} {c d : Control} {t u : Tables} {r : Answered} → r ≡ record { control = d; answer = Accepted }
-    → writesPlaces call Accepted ≡ true → Meets call c t r u → Promised call c t r u
+    → mayWrite call Accepted ≡ true → Meets call c t r u → Promised call c t r u
 with-places {call} e some m = record {
   meets = m;
-  stand = λ none. true-false (ap (λ (x : Answered). writesPlaces call (x .answer)) e ∙ some) none;
+  stand = λ none. true-false (ap (λ (x : Answered). mayWrite call (x .answer)) e ∙ some) none;
 }

@@ -9,7 +9,7 @@ use mathlib.Core.List.{List, [], _∷_, map}
 use native.Mathlib.Nat.{div-lt-iff-lt-mul}
 use native.Mathlib.Omega.{arith}
 use lib.Dec.{eqb, ltb}
-use lib.ListN.{length, getD}
+use lib.ListN.{length, length-set}
 use lib.Seq.{getD-set-other}
 use borrow.Author.Tests.{ltb-true}
 use Rattle.definitions.specs.declared.Answer.the-variants.{Accepted}
@@ -36,8 +36,9 @@ use Rattle.tables.specs.Meaning.{kindAt, packetAt, queueAt, clientAt, cl
 use Rattle.tables.specs.Invariant.{Shape, Valid}
 use Rattle.tables.specs.Promise.{Meets}
 use Rattle.tables.specs.Run.{dealing, callsOf}
-use Rattle.tables.specs.Places.{waitingPlaces, SameLinks, SamePlace, SameWhereWaiting, DifferUnused}
-use Rattle.tables.specs.Unseen.{CallsFrom, here, called, Indistinct, Laid, overwritten, Unused, UnusedUnseen}
+use Rattle.tables.specs.Unused.{waitingPlaces, SameLinks, SamePlace, SameWhereWaiting, DifferUnused, Unused, overwritten}
+use Rattle.tables.specs.CallsFrom.{CallsFrom, here, called}
+use Rattle.tables.specs.Unseen.{Indistinct, Laid, UnusedUnseen}
 use Rattle.tables.proofs.Fields.{places-positive, ring-length}
 use Rattle.tables.proofs.QueueRing.{packets-same}
 
@@ -218,8 +219,8 @@ module _ {call : Event} {c d : Control} {t u v w : Tables} {r q : Answered}
 -- any calls: at each the two cores mean the same, so it gets the same
 calls-same : {c d : Control} {t u : Tables} {first second : Trace} {e f : Control} {v w : Tables}
     → coreOf d u ≡ coreOf c t
-    → CallsFrom c t first e v
-    → CallsFrom d u second f w
+    → CallsFrom Meets c t first e v
+    → CallsFrom Meets d u second f w
     → callsOf second ≡ callsOf first
     → (second ≡ first) × (coreOf f w ≡ coreOf e v)
 unfolding callsOf
@@ -255,7 +256,7 @@ fresh-after {threshold} {discipline} {seed} {c} {d} {t} {u} m n accepts =
     (fresh threshold discipline seed) (sym (m .answer) ∙ accepts))
 
 -- other numbers at a place where no packet waits
-module _ (t : Tables) (place handle length : ℕ) (unused : Unused t place) where
+module _ (c : Control) (t : Tables) (place handle length : ℕ) (unused : Unused t place) where
   place-kept : (p : ℕ) → place ≢ p → SamePlace t (overwritten t place handle length) p
   unfolding packetAt
   place-kept p other = record {
@@ -278,10 +279,27 @@ module _ (t : Tables) (place handle length : ℕ) (unused : Unused t place) wher
     ends = record { next = refl; prev = refl };
   }
 
+  overwritten-laid : Shape c t → Laid (overwritten t place handle length)
+  overwritten-laid shape = record {
+    sizes = record {
+      terms = shape .sizes .terms;
+      stocks = shape .sizes .stocks;
+      handles = length-set (t .handles) place handle ∙ shape .sizes .handles;
+      lengths = length-set (t .lengths) place length ∙ shape .sizes .lengths;
+    };
+    heads = shape .heads;
+    sound = shape .sound;
+  }
+
 pub unused-unseen : UnusedUnseen
 unused-unseen = record {
   indistinct = λ c t u valid differ. indistinct (core-same c t u valid differ);
   valid = valid-same;
-  overwriting = λ c t place handle length valid unused e. waiting-kept t place handle length unused;
+  overwriting = λ c t place handle length valid unused.
+      let differ : DifferUnused c t (overwritten t place handle length) = λ e. waiting-kept c t place handle length unused in (
+        differ,
+        valid-same c t (overwritten t place handle length) valid differ
+            (λ e. overwritten-laid c t place handle length unused (valid e .shape)),
+      );
   opened = λ m n e. indistinct (fresh-after m n e ∙ sym (fresh-after m m e));
 }

@@ -7,5 +7,7 @@ pub mod Invariant
 pub mod Numbers
 pub mod Promise
 pub mod Run
+pub mod CallsFrom
 pub mod Places
+pub mod Unused
 pub mod Unseen

@@ -4,7 +4,7 @@ use mathlib.Core.Path.{_≡_, sym, _∙_}
 use mathlib.Core.Bool.{true, false}
 use Rattle.definitions.specs.Sizes.{ids, places}
 use Rattle.order.specs.Order.{sentinel}
-use Rattle.remains.specs.Remains.{waitsAt, soiledAt}
+use Rattle.remains.specs.Remains.{waitsAt, overwrittenAt}
 use Rattle.remains.proofs.overwrite_at.Statement.{statement}
 use Rattle.remains.proofs.overwrite_at.Tie as tie
 
@@ -12,7 +12,7 @@ waits-at-requires : tie.Need-waits-at-requires
 waits-at-requires c κs = search needs
 
 returns : tie.Need-returns
-unfolding soiledAt
+unfolding overwrittenAt
 returns c =
     let a = c .before .before .args in
     let waits : waitsAt (a .stocks .now) (a .place) ≡ true = sym (c .before .waits-at .ensures) ∙ c .if1 .taken in
@@ -33,7 +33,7 @@ unfolding ids places sentinel
 element-write-lengths c = search needs
 
 returns-2 : tie.Need-returns-2
-unfolding soiledAt
+unfolding overwrittenAt
 returns-2 c =
     let a = c .before .before .args in
     let none : waitsAt (a .stocks .now) (a .place) ≡ false = sym (c .before .waits-at .ensures) ∙ c .if1 .left in

@@ -7,21 +7,21 @@ use native.Mathlib.Numerals.{add-one}
 use native.Mathlib.Omega.{arith}
 use Rattle.definitions.specs.Sizes.{ids, places}
 use Rattle.order.specs.Order.{sentinel}
-use Rattle.remains.specs.Remains.{soiledAt, soiledBelow, soiled}
+use Rattle.remains.specs.Remains.{overwrittenAt, overwrittenBelow, overwrittenUnused}
 use Rattle.remains.proofs.overwrite_unused.Statement.{statement}
 use Rattle.remains.proofs.overwrite_unused.Tie as tie
 
 abbrev Inv-loop : tie.InvT-loop
 Inv-loop stocks handles₀ lengths₀ number place₀ handles lengths place =
     (place ≤ sentinel)
-    × (handles ≡ soiledBelow place stocks number handles₀)
-    × (lengths ≡ soiledBelow place stocks number lengths₀)
+    × (handles ≡ overwrittenBelow place stocks number handles₀)
+    × (lengths ≡ overwrittenBelow place stocks number lengths₀)
 
 abbrev μ-loop : tie.MeasureT-loop
 μ-loop stocks handles₀ lengths₀ number place₀ handles lengths place = sentinel - place
 
 loop-holds : tie.Need-loop-holds Inv-loop μ-loop
-unfolding soiledBelow
+unfolding overwrittenBelow
 loop-holds c = search needs
 
 overwrite-at-requires : tie.Need-overwrite-at-requires Inv-loop μ-loop
@@ -37,16 +37,16 @@ unfolding sentinel ids places
 loop-less c = search needs
 
 loop-again : tie.Need-loop-again Inv-loop μ-loop
-unfolding sentinel ids places soiledBelow
+unfolding sentinel ids places overwrittenBelow
 loop-again c =
     let at = c .before .before .before .before in (
       omega arith,
-      rw add-one (c .overwrite-at .ensures .0 ∙ ap (soiledAt _ _ _) (at .loop .inv .1)),
-      rw add-one (c .overwrite-at .ensures .1 ∙ ap (soiledAt _ _ _) (at .loop .inv .2)),
+      rw add-one (c .overwrite-at .ensures .0 ∙ ap (overwrittenAt _ _ _) (at .loop .inv .1)),
+      rw add-one (c .overwrite-at .ensures .1 ∙ ap (overwrittenAt _ _ _) (at .loop .inv .2)),
     )
 
 returns : tie.Need-returns Inv-loop μ-loop
-unfolding sentinel ids places soiled
+unfolding sentinel ids places overwrittenUnused
 returns c =
     let all : c .before .loop .place ≡ sentinel = omega arith in
     (rw all at (c .before .loop .inv .1), rw all at (c .before .loop .inv .2))

@@ -1,6 +1,6 @@
 -- `remains::stretch` meets its contract: what is overwritten is never seen. Assumes nothing.
 use borrow.Author.Needs.{needs}
-use Rattle.remains.proofs.Soiling.{goes-overwritten}
+use Rattle.remains.proofs.KeptPlaces.{goes-overwritten}
 use Rattle.remains.proofs.stretch.Statement.{statement}
 use Rattle.remains.proofs.stretch.Tie as tie
 

@@ -16,12 +16,11 @@ use Rattle.order.specs.Owner.{owner}
 use Rattle.tables.specs.Tables.{Tables, headAt, countAt, ring}
 use Rattle.tables.specs.Meaning.{packetAt}
 use Rattle.tables.specs.Invariant.{Sized}
-use Rattle.tables.specs.Places.{waitingPlaces}
-use Rattle.tables.specs.Unseen.{Unused}
+use Rattle.tables.specs.Unused.{waitingPlaces, Unused}
 use Rattle.tables.proofs.QueueRing.{placeOf}
 use Rattle.tables.proofs.UnusedPlaces.{owner-below}
-use Rattle.remains.specs.Remains.{behindHead, waitsAt, soiledAt, soiledBelow, soiled, soiledTables, UnusedSoiled}
-use Rattle.remains.proofs.Soiling.{soiledBelow-length, soiled-differ}
+use Rattle.remains.specs.Remains.{behindHead, waitsAt, overwrittenAt, overwrittenBelow, overwrittenUnused, overwrittenTables, UnusedOverwritten}
+use Rattle.remains.proofs.KeptPlaces.{overwrittenBelow-length, overwrittenUnused-differ}
 
 -- the k-th place of a queue is one of them
 ring-has : (id head n k : ℕ) → k < n → Absent (placeOf id (head + k)) (ring id head n) → ⊥
@@ -54,46 +53,48 @@ module _ (t : Tables) (place : ℕ) (below : place < sentinel) (unused : Unused 
       go false e = refl
 
 module _ (stocks : List ℕ) (number : ℕ) (table : List ℕ) (place : ℕ) where
-  soiledAt-here : (xs : List ℕ) → waitsAt stocks place ≡ false → place < length xs
-      → getD (soiledAt stocks number place xs) place 0 ≡ number
-  unfolding soiledAt
-  soiledAt-here xs free room = rw free (getD-set-same xs place number 0 room)
+  overwrittenAt-here : (xs : List ℕ) → waitsAt stocks place ≡ false → place < length xs
+      → getD (overwrittenAt stocks number place xs) place 0 ≡ number
+  unfolding overwrittenAt
+  overwrittenAt-here xs free room = rw free (getD-set-same xs place number 0 room)
 
-  soiledAt-elsewhere : (other : ℕ) (xs : List ℕ) → place ≢ other
-      → getD (soiledAt stocks number other xs) place 0 ≡ getD xs place 0
-  unfolding soiledAt
-  soiledAt-elsewhere other xs apart = go (waitsAt stocks other)
+  overwrittenAt-elsewhere : (other : ℕ) (xs : List ℕ) → place ≢ other
+      → getD (overwrittenAt stocks number other xs) place 0 ≡ getD xs place 0
+  unfolding overwrittenAt
+  overwrittenAt-elsewhere other xs apart = go (waitsAt stocks other)
     where
       go : (b : Bool) → getD (cond b xs (set xs other number)) place 0 ≡ getD xs place 0
       go true = refl
       go false = getD-set-other xs other place number 0 apart
 
   module _ (free : waitsAt stocks place ≡ false) (room : place < length table) where
-    soiledBelow-here : getD (soiledAt stocks number place (soiledBelow place stocks number table)) place 0 ≡ number
-    soiledBelow-here =
-        soiledAt-here (soiledBelow place stocks number table) free (omega (arith, soiledBelow-length stocks number table place))
+    overwrittenBelow-here : getD (overwrittenAt stocks number place (overwrittenBelow place stocks number table)) place 0 ≡ number
+    overwrittenBelow-here =
+        overwrittenAt-here (overwrittenBelow place stocks number table) free
+        (omega (arith, overwrittenBelow-length stocks number table place))
 
-    soiledBelow-written : (n : ℕ) → place < n → getD (soiledBelow n stocks number table) place 0 ≡ number
-    unfolding soiledBelow
-    soiledBelow-written zero l = absurd (omega arith)
-    soiledBelow-written (suc n) l =
-        eqb-cases (λ b. getD (soiledAt stocks number n (soiledBelow n stocks number table)) place 0 ≡ number) place n
-        (λ e. rw (← e) soiledBelow-here)
-        (λ apart. soiledAt-elsewhere n (soiledBelow n stocks number table) apart ∙ soiledBelow-written n (omega arith))
+    overwrittenBelow-written : (n : ℕ) → place < n → getD (overwrittenBelow n stocks number table) place 0 ≡ number
+    unfolding overwrittenBelow
+    overwrittenBelow-written zero l = absurd (omega arith)
+    overwrittenBelow-written (suc n) l =
+        eqb-cases (λ b. getD (overwrittenAt stocks number n (overwrittenBelow n stocks number table)) place 0 ≡ number) place n
+        (λ e. rw (← e) overwrittenBelow-here)
+        (λ apart.
+        overwrittenAt-elsewhere n (overwrittenBelow n stocks number table) apart ∙ overwrittenBelow-written n (omega arith))
 
-    soiled-written : place < sentinel → getD (soiled stocks number table) place 0 ≡ number
-    unfolding soiled
-    soiled-written below = soiledBelow-written sentinel below
+    overwrittenUnused-written : place < sentinel → getD (overwrittenUnused stocks number table) place 0 ≡ number
+    unfolding overwrittenUnused
+    overwrittenUnused-written below = overwrittenBelow-written sentinel below
 
 module _ (t : Tables) (number place : ℕ) (sizes : Sized t) (below : place < sentinel) (unused : Unused t place) where
-  place-written : packetAt (soiledTables number t) place ≡ record { handle = number; length = number }
+  place-written : packetAt (overwrittenTables number t) place ≡ record { handle = number; length = number }
   unfolding packetAt sentinel ids places
   place-written =
       let free : waitsAt (t .stocks) place ≡ false = unused-free t place below unused in
       λ i. record {
-        handle = soiled-written (t .stocks) number (t .handles) place free (omega (arith, sizes .handles)) below i;
-        length = soiled-written (t .stocks) number (t .lengths) place free (omega (arith, sizes .lengths)) below i;
+        handle = overwrittenUnused-written (t .stocks) number (t .handles) place free (omega (arith, sizes .handles)) below i;
+        length = overwrittenUnused-written (t .stocks) number (t .lengths) place free (omega (arith, sizes .lengths)) below i;
       }
 
-pub unused-soiled : UnusedSoiled
-unused-soiled = record { written = place-written; differ = λ c t number. soiled-differ number t c }
+pub unused-overwritten : UnusedOverwritten
+unused-overwritten = record { written = place-written; differ = λ c t number. overwrittenUnused-differ number t c }

@@ -18,7 +18,7 @@ use Rattle.tables.specs.declared.Control.{Control}
 use Rattle.tables.specs.Tables.{Tables, tables, headAt, countAt, ring}
 use Rattle.tables.specs.Meaning.{packetAt, coreOf}
 use Rattle.tables.specs.Invariant.{SoundCore, Valid}
-use Rattle.tables.specs.Places.{waitingPlaces, SamePlace, DifferUnused}
+use Rattle.tables.specs.Unused.{waitingPlaces, SamePlace, DifferUnused}
 use Rattle.tables.specs.Unseen.{Laid}
 use Rattle.tables.proofs.Fields.{place-owner}
 use Rattle.tables.proofs.QueueRing.{placeOf}
@@ -26,7 +26,7 @@ use Rattle.tables.proofs.Touch.{count-high}
 use Rattle.tables.proofs.UnusedPlaces.{unused-unseen}
 use Rattle.runs.specs.declared.Progress.{Progress}
 use Rattle.runs.specs.Stands.{Goes}
-use Rattle.remains.specs.Remains.{behindHead, waitsAt, soiledAt, soiledBelow, soiled, soiledTables}
+use Rattle.remains.specs.Remains.{behindHead, waitsAt, overwrittenAt, overwrittenBelow, overwrittenUnused, overwrittenTables}
 
 remainder-behind : (id head k : ℕ) → k < places
     → (placeOf id (head + k) % places + (places - head % places)) % places ≡ k
@@ -52,49 +52,49 @@ module _ (stocks : List ℕ) (id : ℕ) where
       (waitsAt-nth k (omega arith) (omega arith), rw next at (ring-waits (suc k) n (omega arith) l))
 
 module _ (stocks : List ℕ) (number : ℕ) (table : List ℕ) where
-  soiledAt-length : (place : ℕ) (xs : List ℕ) → length (soiledAt stocks number place xs) ≡ length xs
-  unfolding soiledAt
-  soiledAt-length place xs = go (waitsAt stocks place)
+  overwrittenAt-length : (place : ℕ) (xs : List ℕ) → length (overwrittenAt stocks number place xs) ≡ length xs
+  unfolding overwrittenAt
+  overwrittenAt-length place xs = go (waitsAt stocks place)
     where
       go : (b : Bool) → length (cond b xs (set xs place number)) ≡ length xs
       go true = refl
       go false = length-set xs place number
 
-  pub soiledBelow-length : (n : ℕ) → length (soiledBelow n stocks number table) ≡ length table
-  unfolding soiledBelow
-  soiledBelow-length zero = refl
-  soiledBelow-length (suc n) = soiledAt-length n (soiledBelow n stocks number table) ∙ soiledBelow-length n
+  pub overwrittenBelow-length : (n : ℕ) → length (overwrittenBelow n stocks number table) ≡ length table
+  unfolding overwrittenBelow
+  overwrittenBelow-length zero = refl
+  overwrittenBelow-length (suc n) = overwrittenAt-length n (overwrittenBelow n stocks number table) ∙ overwrittenBelow-length n
 
-  soiled-length : length (soiled stocks number table) ≡ length table
-  unfolding soiled
-  soiled-length = soiledBelow-length sentinel
+  overwrittenUnused-length : length (overwrittenUnused stocks number table) ≡ length table
+  unfolding overwrittenUnused
+  overwrittenUnused-length = overwrittenBelow-length sentinel
 
   module _ (place : ℕ) (waits : waitsAt stocks place ≡ true) where
-    soiledAt-kept : (other : ℕ) (xs : List ℕ) → getD (soiledAt stocks number other xs) place 0 ≡ getD xs place 0
-    unfolding soiledAt
-    soiledAt-kept other xs = go (waitsAt stocks other) refl
+    overwrittenAt-kept : (other : ℕ) (xs : List ℕ) → getD (overwrittenAt stocks number other xs) place 0 ≡ getD xs place 0
+    unfolding overwrittenAt
+    overwrittenAt-kept other xs = go (waitsAt stocks other) refl
       where
         go : (b : Bool) → waitsAt stocks other ≡ b → getD (cond b xs (set xs other number)) place 0 ≡ getD xs place 0
         go true e = refl
         go false e = getD-set-other xs other place number 0 (λ same. true-false waits (ap (waitsAt stocks) same ∙ e))
 
-    soiledBelow-kept : (n : ℕ) → getD (soiledBelow n stocks number table) place 0 ≡ getD table place 0
-    unfolding soiledBelow
-    soiledBelow-kept zero = refl
-    soiledBelow-kept (suc n) = soiledAt-kept n (soiledBelow n stocks number table) ∙ soiledBelow-kept n
+    overwrittenBelow-kept : (n : ℕ) → getD (overwrittenBelow n stocks number table) place 0 ≡ getD table place 0
+    unfolding overwrittenBelow
+    overwrittenBelow-kept zero = refl
+    overwrittenBelow-kept (suc n) = overwrittenAt-kept n (overwrittenBelow n stocks number table) ∙ overwrittenBelow-kept n
 
     -- what stands where a packet waits
-    soiled-kept : getD (soiled stocks number table) place 0 ≡ getD table place 0
-    unfolding soiled
-    soiled-kept = soiledBelow-kept sentinel
+    overwrittenUnused-kept : getD (overwrittenUnused stocks number table) place 0 ≡ getD table place 0
+    unfolding overwrittenUnused
+    overwrittenUnused-kept = overwrittenBelow-kept sentinel
 
 module _ (number : ℕ) (t : Tables) where
-  place-kept : (p : ℕ) → waitsAt (t .stocks) p ≡ true → SamePlace t (soiledTables number t) p
+  place-kept : (p : ℕ) → waitsAt (t .stocks) p ≡ true → SamePlace t (overwrittenTables number t) p
   unfolding packetAt
   place-kept p waits = record {
     packet = λ i. record {
-      handle = soiled-kept (t .stocks) number (t .handles) p waits i;
-      length = soiled-kept (t .stocks) number (t .lengths) p waits i;
+      handle = overwrittenUnused-kept (t .stocks) number (t .handles) p waits i;
+      length = overwrittenUnused-kept (t .stocks) number (t .lengths) p waits i;
     };
     links = record { next = refl; prev = refl };
   }
@@ -106,49 +106,50 @@ module _ (number : ℕ) (t : Tables) where
         let none : headAt (t .stocks) id + 0 ≡ headAt (t .stocks) id = omega arith in
         rw none at (ring-waits (t .stocks) id 0 (countAt (t .stocks) id) (omega arith) (count-high c t sound id below))
 
-    soiled-laid : Laid (soiledTables number t)
-    soiled-laid = record {
+    overwrittenUnused-laid : Laid (overwrittenTables number t)
+    overwrittenUnused-laid = record {
       sizes = record {
         terms = sound .shape .sizes .terms;
         stocks = sound .shape .sizes .stocks;
-        handles = soiled-length (t .stocks) number (t .handles) ∙ sound .shape .sizes .handles;
-        lengths = soiled-length (t .stocks) number (t .lengths) ∙ sound .shape .sizes .lengths;
+        handles = overwrittenUnused-length (t .stocks) number (t .handles) ∙ sound .shape .sizes .handles;
+        lengths = overwrittenUnused-length (t .stocks) number (t .lengths) ∙ sound .shape .sizes .lengths;
       };
       heads = sound .shape .heads;
       sound = sound .shape .sound;
     }
 
   module _ (c : Control) (valid : Valid c t) where
-    pub soiled-differ : DifferUnused c t (soiledTables number t)
+    pub overwrittenUnused-differ : DifferUnused c t (overwrittenTables number t)
     unfolding waitingPlaces
-    soiled-differ e = record {
+    overwrittenUnused-differ e = record {
       terms = refl;
       pools = λ id below. refl;
       waiting = λ id below. refl;
       places = λ id below.
-          all-map (λ p. waitsAt (t .stocks) p ≡ true) (SamePlace t (soiledTables number t)) place-kept (waitingPlaces t id)
+          all-map (λ p. waitsAt (t .stocks) p ≡ true) (SamePlace t (overwrittenTables number t)) place-kept (waitingPlaces t id)
           (places-wait c (valid e) id below);
       ends = record { next = refl; prev = refl };
     }
 
-    soiled-core : coreOf c (soiledTables number t) ≡ coreOf c t
-    soiled-core = unused-unseen .indistinct c t (soiledTables number t) valid soiled-differ .core
+    overwrittenUnused-core : coreOf c (overwrittenTables number t) ≡ coreOf c t
+    overwrittenUnused-core = unused-unseen .indistinct c t (overwrittenTables number t) valid overwrittenUnused-differ .core
 
-    soiled-valid : Valid c (soiledTables number t)
-    soiled-valid =
-        unused-unseen .valid c t (soiledTables number t) valid soiled-differ (λ e. soiled-laid c (valid e))
+    overwrittenUnused-valid : Valid c (overwrittenTables number t)
+    overwrittenUnused-valid =
+        unused-unseen .valid c t (overwrittenTables number t) valid overwrittenUnused-differ
+        (λ e. overwrittenUnused-laid c (valid e))
 
 -- calls that were made, with the tables overwritten behind them
 module _ {p q : Progress} {t u : Tables} {calls : ℕ} (number : ℕ) (g : Goes calls p t q u) where
-  goes-soiled : Goes calls p t q (soiledTables number u)
-  goes-soiled = record {
+  goes-rewritten : Goes calls p t q (overwrittenTables number u)
+  goes-rewritten = record {
     run = ap (λ (x : Core). record { core = x; value = q .maker .value; check = q .check })
-        (soiled-core number u (q .control) (g .valid)) ∙ g .run;
-    valid = soiled-valid number u (q .control) (g .valid);
+        (overwrittenUnused-core number u (q .control) (g .valid)) ∙ g .run;
+    valid = overwrittenUnused-valid number u (q .control) (g .valid);
   }
 
   pub goes-overwritten : {handles lengths : List ℕ}
-      → handles ≡ soiled (u .stocks) number (u .handles)
-      → lengths ≡ soiled (u .stocks) number (u .lengths)
+      → handles ≡ overwrittenUnused (u .stocks) number (u .handles)
+      → lengths ≡ overwrittenUnused (u .stocks) number (u .lengths)
       → Goes calls p t q (tables (u .terms) (u .stocks) handles lengths (u .links))
-  goes-overwritten e f = rw (e, f) goes-soiled
+  goes-overwritten e f = rw (e, f) goes-rewritten
