@@ -16,14 +16,14 @@ use Rattle.order.specs.Order.{sentinel, All}
 use Rattle.order.proofs.DistinctLists.{all-map}
 use Rattle.tables.specs.declared.Control.{Control}
 use Rattle.tables.specs.Tables.{Tables, tables, headAt, countAt, ring}
-use Rattle.tables.specs.Meaning.{packetAt, coreOf}
+use Rattle.tables.specs.Meaning.{coreOf}
 use Rattle.tables.specs.Invariant.{SoundCore, Valid}
 use Rattle.tables.specs.Unused.{waitingPlaces, SamePlace, DifferUnused}
 use Rattle.tables.specs.Unseen.{Laid}
 use Rattle.tables.proofs.Fields.{place-owner}
 use Rattle.tables.proofs.QueueRing.{placeOf}
 use Rattle.tables.proofs.Touch.{count-high}
-use Rattle.tables.proofs.UnusedPlaces.{unused-unseen}
+use Rattle.tables.proofs.UnusedPlaces.{rewritten-place, rewritten-waiting, rewritten-laid, unused-unseen}
 use Rattle.runs.specs.declared.Progress.{Progress}
 use Rattle.runs.specs.Stands.{Goes}
 use Rattle.remains.specs.Remains.{behindHead, waitsAt, overwrittenAt, overwrittenBelow, overwrittenUnused, overwrittenTables}
@@ -90,14 +90,9 @@ module _ (stocks : List ℕ) (number : ℕ) (table : List ℕ) where
 
 module _ (number : ℕ) (t : Tables) where
   place-kept : (p : ℕ) → waitsAt (t .stocks) p ≡ true → SamePlace t (overwrittenTables number t) p
-  unfolding packetAt
-  place-kept p waits = record {
-    packet = λ i. record {
-      handle = overwrittenUnused-kept (t .stocks) number (t .handles) p waits i;
-      length = overwrittenUnused-kept (t .stocks) number (t .lengths) p waits i;
-    };
-    links = record { next = refl; prev = refl };
-  }
+  place-kept p waits =
+      rewritten-place t _ _ p (overwrittenUnused-kept (t .stocks) number (t .handles) p waits)
+      (overwrittenUnused-kept (t .stocks) number (t .lengths) p waits)
 
   module _ (c : Control) (sound : SoundCore c t) where
     places-wait : (id : ℕ) → id < ids → All (λ p. waitsAt (t .stocks) p ≡ true) (waitingPlaces t id)
@@ -107,29 +102,17 @@ module _ (number : ℕ) (t : Tables) where
         rw none at (ring-waits (t .stocks) id 0 (countAt (t .stocks) id) (omega arith) (count-high c t sound id below))
 
     overwrittenUnused-laid : Laid (overwrittenTables number t)
-    overwrittenUnused-laid = record {
-      sizes = record {
-        terms = sound .shape .sizes .terms;
-        stocks = sound .shape .sizes .stocks;
-        handles = overwrittenUnused-length (t .stocks) number (t .handles) ∙ sound .shape .sizes .handles;
-        lengths = overwrittenUnused-length (t .stocks) number (t .lengths) ∙ sound .shape .sizes .lengths;
-      };
-      heads = sound .shape .heads;
-      sound = sound .shape .sound;
-    }
+    overwrittenUnused-laid =
+        rewritten-laid t _ _ (sound .shape) (overwrittenUnused-length (t .stocks) number (t .handles))
+        (overwrittenUnused-length (t .stocks) number (t .lengths))
 
   module _ (c : Control) (valid : Valid c t) where
     pub overwrittenUnused-differ : DifferUnused c t (overwrittenTables number t)
-    unfolding waitingPlaces
-    overwrittenUnused-differ e = record {
-      terms = refl;
-      pools = λ id below. refl;
-      waiting = λ id below. refl;
-      places = λ id below.
-          all-map (λ p. waitsAt (t .stocks) p ≡ true) (SamePlace t (overwrittenTables number t)) place-kept (waitingPlaces t id)
-          (places-wait c (valid e) id below);
-      ends = record { next = refl; prev = refl };
-    }
+    overwrittenUnused-differ e =
+        rewritten-waiting t _ _
+        (λ id below.
+        all-map (λ p. waitsAt (t .stocks) p ≡ true) (SamePlace t (overwrittenTables number t)) place-kept (waitingPlaces t id)
+        (places-wait c (valid e) id below))
 
     overwrittenUnused-core : coreOf c (overwrittenTables number t) ≡ coreOf c t
     overwrittenUnused-core = unused-unseen .indistinct c t (overwrittenTables number t) valid overwrittenUnused-differ .core

@@ -9,7 +9,7 @@ use mathlib.Core.List.{List, [], _∷_, map}
 use native.Mathlib.Nat.{div-lt-iff-lt-mul}
 use native.Mathlib.Omega.{arith}
 use lib.Dec.{eqb, ltb}
-use lib.ListN.{length, length-set}
+use lib.ListN.{length, getD, set, length-set}
 use lib.Seq.{getD-set-other}
 use borrow.Author.Tests.{ltb-true}
 use Rattle.definitions.specs.declared.Answer.the-variants.{Accepted}
@@ -31,7 +31,7 @@ use Rattle.order.proofs.DistinctLists.{all-map}
 use Rattle.order.proofs.OrderWalk.{ordered-walked}
 use Rattle.tables.specs.declared.Control.{Control}
 use Rattle.tables.specs.declared.Answered.{Answered}
-use Rattle.tables.specs.Tables.{Tables, headAt, countAt, ring}
+use Rattle.tables.specs.Tables.{Tables, tables, headAt, countAt, ring}
 use Rattle.tables.specs.Meaning.{kindAt, packetAt, queueAt, clientAt, clientsOf, stockAt, stocksOf, orderOf, sideOf, stateOf, coreOf}
 use Rattle.tables.specs.Invariant.{Shape, Valid}
 use Rattle.tables.specs.Promise.{Meets}
@@ -255,51 +255,66 @@ fresh-after {threshold} {discipline} {seed} {c} {d} {t} {u} m n accepts =
     (checked-anyway (openChecks threshold discipline seed) (unchanged (coreOf c t)) (unchanged (coreOf d u))
     (fresh threshold discipline seed) (sym (m .answer) ∙ accepts))
 
--- other numbers at a place where no packet waits
-module _ (c : Control) (t : Tables) (place handle length : ℕ) (unused : Unused t place) where
-  place-kept : (p : ℕ) → place ≢ p → SamePlace t (overwritten t place handle length) p
+-- the same tables with other handles and lengths
+abbrev pub rewritten : Tables → List ℕ → List ℕ → Tables
+rewritten t handles lengths = tables (t .terms) (t .stocks) handles lengths (t .links)
+
+module _ (t : Tables) (handles lengths : List ℕ) where
+  pub rewritten-place : (p : ℕ) → getD handles p 0 ≡ getD (t .handles) p 0 → getD lengths p 0 ≡ getD (t .lengths) p 0
+      → SamePlace t (rewritten t handles lengths) p
   unfolding packetAt
-  place-kept p other = record {
-    packet = λ i. record {
-      handle = getD-set-other (t .handles) place p handle 0 (λ e. other (sym e)) i;
-      length = getD-set-other (t .lengths) place p length 0 (λ e. other (sym e)) i;
-    };
+  rewritten-place p e f = record {
+    packet = λ i. record { handle = e i; length = f i };
     links = record { next = refl; prev = refl };
   }
 
-  waiting-kept : SameWhereWaiting t (overwritten t place handle length)
+  pub rewritten-waiting : ((id : ℕ) → id < ids → All (SamePlace t (rewritten t handles lengths)) (waitingPlaces t id))
+      → SameWhereWaiting t (rewritten t handles lengths)
   unfolding waitingPlaces
-  waiting-kept = record {
+  rewritten-waiting same = record {
     terms = refl;
     pools = λ id below. refl;
     waiting = λ id below. refl;
-    places = λ id below.
-        all-map (λ p. place ≢ p) (SamePlace t (overwritten t place handle length)) place-kept
-        (waitingPlaces t id) (unused id below);
+    places = same;
     ends = record { next = refl; prev = refl };
   }
 
-  overwritten-laid : Shape c t → Laid (overwritten t place handle length)
-  overwritten-laid shape = record {
+  pub rewritten-laid : {c : Control} → Shape c t → length handles ≡ length (t .handles) → length lengths ≡ length (t .lengths)
+      → Laid (rewritten t handles lengths)
+  rewritten-laid shape e f = record {
     sizes = record {
       terms = shape .sizes .terms;
       stocks = shape .sizes .stocks;
-      handles = length-set (t .handles) place handle ∙ shape .sizes .handles;
-      lengths = length-set (t .lengths) place length ∙ shape .sizes .lengths;
+      handles = e ∙ shape .sizes .handles;
+      lengths = f ∙ shape .sizes .lengths;
     };
     heads = shape .heads;
     sound = shape .sound;
   }
+
+-- other numbers at a place where no packet waits
+module _ (t : Tables) (place handle length : ℕ) (unused : Unused t place) where
+  place-kept : (p : ℕ) → place ≢ p → SamePlace t (overwritten t place handle length) p
+  place-kept p other =
+      rewritten-place t (set (t .handles) place handle) (set (t .lengths) place length) p
+      (getD-set-other (t .handles) place p handle 0 (λ e. other (sym e)))
+      (getD-set-other (t .lengths) place p length 0 (λ e. other (sym e)))
+
+  waiting-kept : SameWhereWaiting t (overwritten t place handle length)
+  waiting-kept =
+      rewritten-waiting t (set (t .handles) place handle) (set (t .lengths) place length)
+      (λ id below.
+      all-map (λ p. place ≢ p) (SamePlace t (overwritten t place handle length)) place-kept (waitingPlaces t id) (unused id below))
 
 pub unused-unseen : UnusedUnseen
 unused-unseen = record {
   indistinct = λ c t u valid differ. indistinct (core-same c t u valid differ);
   valid = valid-same;
   overwriting = λ c t place handle length valid unused.
-      let differ : DifferUnused c t (overwritten t place handle length) = λ e. waiting-kept c t place handle length unused in (
+      let differ : DifferUnused c t (overwritten t place handle length) = λ e. waiting-kept t place handle length unused in (
         differ,
         valid-same c t (overwritten t place handle length) valid differ
-            (λ e. overwritten-laid c t place handle length unused (valid e .shape)),
+            (λ e. rewritten-laid t _ _ (valid e .shape) (length-set (t .handles) place handle) (length-set (t .lengths) place length)),
       );
   opened = λ m n e. indistinct (fresh-after m n e ∙ sym (fresh-after m m e));
 }
