@@ -1,9 +1,9 @@
--- The bucket's bound: what an indifferent client's accepted arrivals cost is at most its level and a rate for each tick.
--- By induction over the stretch: an accepted arrival takes its cost, a tick adds at most the rate, no other call moves either.
-use Prim.Native.Nat.{ℕ, _+_, _-_, _*_, _≤_, _<_}
-use mathlib.Core.Path.{_≡_, refl, sym}
+-- The level after a stretch, and so the bucket's bound. By induction over the stretch: an accepted arrival takes its cost, a tick
+-- brings the rate, of which the bucket keeps what it has room for, and no other call moves either. Assumes nothing.
+use Prim.Native.Nat.{ℕ, _+_, _-_, _*_, _<_, min}
+use mathlib.Core.Path.{_≡_, refl, sym, _∙_}
 use mathlib.Core.Bool.{Bool, true, false, cond, not, _&&_, _||_, true≢false}
-use mathlib.Core.List.{List, [], _∷_}
+use mathlib.Core.List.{List}
 use native.Mathlib.Nat.{le-div-iff-mul-le}
 use native.Mathlib.Omega.{arith}
 use lib.Dec.{T, eqb, leb, lit<}
@@ -15,83 +15,100 @@ use Rattle.definitions.specs.Client.{Client, isIndifferent, nobody, join
 use Rattle.definitions.specs.Stock.{bare, loaded}
 use Rattle.definitions.specs.State.{State, Core, unopened, running, fresh, updated, put, stocked, emptied}
 use Rattle.definitions.specs.Answers.{isAccepted}
-use Rattle.definitions.specs.Checks.{Result, Check, accepted, checked, unchanged, openChecks, activeChecks, joinChecks, changeChecks, leaveChecks, loadChecks, arriveChecks}
+use Rattle.definitions.specs.Checks.{Check, accepted, checked, unchanged, openChecks, activeChecks, joinChecks, changeChecks, leaveChecks, loadChecks, arriveChecks}
 use Rattle.definitions.specs.Calls.{onOpen, onJoin, sideAfterChange, onChange, onLeave, onLoad, sideAfterArrival, onArrive}
 use Rattle.definitions.specs.Tick.{onTick}
 use Rattle.definitions.specs.Core.{step}
-use Rattle.definitions.specs.History.{clientOf}
+use Rattle.definitions.specs.History.{History, start, _then_, after, answerAt, dealingAt, traceOf, clientOf}
 use Rattle.definitions.specs.Sameness.{names, isSetting, isArrival, isTick}
-use Rattle.definitions.specs.Bound.{oneIf, isOpen, resets, undisturbed, acceptances, ticks, Bound}
-use Rattle.definitions.proofs.Laws.Tests.{cond-both, T-and}
-use Rattle.definitions.proofs.Laws.Checked.{Passed, checked-cases}
+use Rattle.definitions.specs.Stretch.{stretch, behind, oneIf, isOpen, ticks, resets, isOffer, undisturbed, acceptances, bought}
+use Rattle.definitions.specs.Bound.{spill, spilt, LevelAfter, Bound}
+use Rattle.definitions.proofs.Laws.Tests.{T-and}
+use Rattle.definitions.proofs.Laws.Checked.{Passed, checked-spared}
 use Rattle.definitions.proofs.Laws.Clients.{put-other, put-cases}
 use Rattle.definitions.proofs.Facts.{tick-client}
 
--- a client d after a client c, of the same kind and rate, where something is taken of the level and something is given
-record Moved (taken given : ℕ) (c d : Client) : Type 0 where
-  kind : d .kind ≡ c .kind
-  rate : d .rate ≡ c .rate
-  level : taken + d .level ≤ c .level + given
+-- a client d after a client c, on the same terms: what was taken, what is left and what was spilt is what it had and was given
+pub record Moved (taken given over : ℕ) (c d : Client) : Type 0 where
+  pub kind : d .kind ≡ c .kind
+  pub rate : d .rate ≡ c .rate
+  pub burst : d .burst ≡ c .burst
+  pub level : taken + (d .level + over) ≡ c .level + given
 
-unmoved : (c : Client) → Moved 0 0 c c
-unmoved c = record { kind = refl; rate = refl; level = omega arith }
+unmoved : (c : Client) → Moved 0 0 0 c c
+unmoved c = record { kind = refl; rate = refl; burst = refl; level = omega arith }
+
+-- behind n packets that were accepted and k ticks, one call more
+moved-on : (taken ticked : Bool) (n k : ℕ) {over more : ℕ} {c d e : Client}
+    → Moved (n * shares) (k * c .rate) over c d
+    → Moved (cond taken shares 0) (cond ticked (d .rate) 0) more d e
+    → Moved (oneIf taken n * shares) (oneIf ticked k * c .rate) (over + more) c e
+moved-on taken ticked n k {over} {more} {c} {d} {e} m next = record {
+  kind = next .kind ∙ m .kind;
+  rate = next .rate ∙ m .rate;
+  burst = next .burst ∙ m .burst;
+  level = go taken ticked (next .level);
+}
+  where
+    go : (a t : Bool)
+        → cond a shares 0 + (e .level + more) ≡ d .level + cond t (d .rate) 0
+        → oneIf a n * shares + (e .level + (over + more)) ≡ c .level + oneIf t k * c .rate
+    go true true q = omega (arith, m .level, m .rate)
+    go true false q = omega (arith, m .level)
+    go false true q = omega (arith, m .level, m .rate)
+    go false false q = omega (arith, m .level)
 
 charged-moved : (c : Client)
     → T (isIndifferent (c .kind))
     → (not (isIndifferent (c .kind)) || leb shares (c .level)) ≡ true
-    → Moved shares 0 c (charged c)
+    → Moved shares 0 0 c (charged c)
 unfolding charged
 charged-moved c indifferently covered = record {
   kind = refl;
   rate = refl;
+  burst = refl;
   level = go (isIndifferent (c .kind)) indifferently covered;
 }
   where
     go : (b : Bool)
         → T b
         → (not b || leb shares (c .level)) ≡ true
-        → shares + cond b (c .level - shares) (c .level) ≤ c .level + 0
+        → shares + (cond b (c .level - shares) (c .level) + 0) ≡ c .level + 0
     go true t e = omega (arith, leb-true shares (c .level) e)
     go false t e = absurd t
 
--- a refill adds at most the rate
-refilled-within : (c : Client) → 0 + refilled c .level ≤ c .level + c .rate
-unfolding refilled
-refilled-within c =
-    cond-both (λ (n : ℕ). 0 + n ≤ c .level + c .rate) (isIndifferent (c .kind)) (omega arith) (omega arith)
+-- a refill adds the rate, but for what it spills
+refilled-moved : (c : Client) → T (isIndifferent (c .kind)) → Moved 0 (c .rate) (spill c) c (refilled c)
+unfolding refilled spill
+refilled-moved c indifferently = record {
+  kind = refl;
+  rate = refl;
+  burst = refl;
+  level = go (isIndifferent (c .kind)) indifferently;
+}
+  where
+    go : (b : Bool)
+        → T b
+        → 0 + (cond b (min (c .level + c .rate) (c .burst * shares)) (c .level) + (c .level + c .rate - c .burst * shares))
+        ≡ c .level + c .rate
+    go true t = omega arith
+    go false t = absurd t
 
 module _ (s : State) (id : ℕ) where
   -- A call that passes its checks or keeps the core: the client moves as the accepted call moves it, or not at all.
-  checked-moved : (reset arrival : Bool) (cs : List Check) (after : State)
-      → (Passed cs → reset ≡ false → Moved (cond arrival shares 0) 0 (s .clients id) (after .clients id))
-      → T (not (reset && isAccepted (checked cs (unchanged (running s)) (accepted after) .answer)))
-      → Moved (cond (arrival && isAccepted (checked cs (unchanged (running s)) (accepted after) .answer)) shares 0) 0
+  checked-moved : (reset arrival : Bool) (cs : List Check) (made : State)
+      → (Passed cs → reset ≡ false → Moved (cond arrival shares 0) 0 0 (s .clients id) (made .clients id))
+      → T (not (reset && isAccepted (checked cs (unchanged (running s)) (accepted made) .answer)))
+      → Moved (cond (arrival && isAccepted (checked cs (unchanged (running s)) (accepted made) .answer)) shares 0) 0 0
       (s .clients id)
-      (clientOf (checked cs (unchanged (running s)) (accepted after) .core) id)
-  unfolding isAccepted clientOf
-  checked-moved reset arrival cs after done =
-      checked-cases
-      (λ r. T (not (reset && isAccepted (r .answer)))
-      → Moved (cond (arrival && isAccepted (r .answer)) shares 0) 0 (s .clients id) (clientOf (r .core) id))
-      cs (unchanged (running s)) (accepted after)
-      (λ number spared. refusal arrival)
-      (λ passed spared. acceptance arrival reset spared (done passed))
-    where
-      refusal : (b : Bool) → Moved (cond (b && false) shares 0) 0 (s .clients id) (s .clients id)
-      refusal true = unmoved (s .clients id)
-      refusal false = unmoved (s .clients id)
-
-      acceptance : (a r : Bool)
-          → T (not (r && true))
-          → (r ≡ false → Moved (cond a shares 0) 0 (s .clients id) (after .clients id))
-          → Moved (cond (a && true) shares 0) 0 (s .clients id) (after .clients id)
-      acceptance true true t m = absurd t
-      acceptance true false t m = m refl
-      acceptance false true t m = absurd t
-      acceptance false false t m = m refl
+      (clientOf (checked cs (unchanged (running s)) (accepted made) .core) id)
+  unfolding clientOf
+  checked-moved reset arrival cs made =
+      checked-spared (λ a core. Moved (cond a shares 0) 0 0 (s .clients id) (clientOf core id)) s reset arrival cs made
+      (unmoved (s .clients id))
 
   -- a call that puts another client in place
-  other-moved : (other : ℕ) (d : Client) → eqb other id ≡ false → Moved 0 0 (s .clients id) (put (s .clients) other d id)
+  other-moved : (other : ℕ) (d : Client) → eqb other id ≡ false → Moved 0 0 0 (s .clients id) (put (s .clients) other d id)
   other-moved other d e =
       let own : put (s .clients) other d id ≡ s .clients id =
       put-other (s .clients) other d id (λ q. eqb-false other id e (sym q)) in
@@ -100,32 +117,29 @@ module _ (s : State) (id : ℕ) where
   arrive-moved : (other : ℕ) (p : Packet)
       → T (isIndifferent (s .clients id .kind))
       → Passed (arriveChecks s other p)
-      → Moved (cond (eqb other id) shares 0) 0 (s .clients id) (put (s .clients) other (charged (s .clients other)) id)
+      → Moved (cond (eqb other id) shares 0) 0 0 (s .clients id) (put (s .clients) other (charged (s .clients other)) id)
   unfolding arriveChecks activeChecks
   arrive-moved other p indifferently passed =
       put-cases (s .clients) other (charged (s .clients other))
-      (λ j d. T (isIndifferent (s .clients j .kind)) → Moved (cond (eqb other j) shares 0) 0 (s .clients j) d)
+      (λ j d. T (isIndifferent (s .clients j .kind)) → Moved (cond (eqb other j) shares 0) 0 0 (s .clients j) d)
       (λ t. rw (eq-eqb other other refl) (charged-moved (s .clients other) t (passed .1 .1 .1 .1 .0)))
       (λ j ne t. rw (ne-eqb other j (λ q. ne (sym q))) (unmoved (s .clients j)))
       id
       indifferently
 
-  tick-moved : Moved 0 (s .clients id .rate) (s .clients id) (clientOf (onTick s .core) id)
-  unfolding refilled
-  tick-moved = rw (tick-client s id) (record { kind = refl; rate = refl; level = refilled-within (s .clients id) })
-
--- whether a call, answered so, is an accepted arrival of the client
-abbrev taking : ℕ → Event → Result → Bool
-taking id c r = (isArrival c && names id c) && isAccepted (r .answer)
+  tick-moved : T (isIndifferent (s .clients id .kind))
+      → Moved 0 (s .clients id .rate) (spill (s .clients id)) (s .clients id) (clientOf (onTick s .core) id)
+  tick-moved indifferently = rw (tick-client s id) (refilled-moved (s .clients id) indifferently)
 
 -- what each call does to an indifferent client that it does not reset
-step-moved : (core : Core) (id : ℕ) (c : Event)
+pub step-moved : (core : Core) (id : ℕ) (c : Event)
     → T (isIndifferent (clientOf core id .kind))
     → T (not (resets id c && isAccepted (step core c .answer)))
-    → Moved (cond (taking id c (step core c)) shares 0) (cond (isTick c) (clientOf core id .rate) 0)
+    → Moved (cond (isOffer id c && isAccepted (step core c .answer)) shares 0) (cond (isTick c) (clientOf core id .rate) 0)
+    (cond (isTick c) (spill (clientOf core id)) 0)
     (clientOf core id)
     (clientOf (step core c .core) id)
-unfolding step clientOf updated resets isOpen isSetting isArrival isTick names
+unfolding step clientOf updated resets isOffer isOpen isSetting isArrival isTick names
     onOpen onJoin onChange onLeave onLoad onArrive onTick
 step-moved unopened id c indifferently spared = absurd indifferently
 step-moved (running s) id (Open threshold discipline seed) indifferently spared =
@@ -157,39 +171,42 @@ step-moved (running s) id (Arrive other p) indifferently spared =
     (updated s (put (s .clients) other (charged (s .clients other))) (sideAfterArrival s other p))
     (λ passed kept. arrive-moved s id other p indifferently passed)
     spared
-step-moved (running s) id Tick indifferently spared = tick-moved s id
+step-moved (running s) id Tick indifferently spared = tick-moved s id indifferently
 
--- what the arrivals that are accepted in a stretch cost
-stretch-cost : (id : ℕ) (stretch : List Event) (core : Core)
-    → T (isIndifferent (clientOf core id .kind))
-    → T (undisturbed id core stretch)
-    → acceptances id core stretch * shares ≤ clientOf core id .level + ticks stretch * clientOf core id .rate
-unfolding undisturbed acceptances ticks
-stretch-cost id [] core indifferently calm = omega arith
-stretch-cost id (c ∷ cs) core indifferently calm =
-    let both = T-and (not (resets id c && isAccepted (step core c .answer))) (undisturbed id (step core c .core) cs) calm in
-    let moved = step-moved core id c indifferently (both .0) in
-    let still : T (isIndifferent (clientOf (step core c .core) id .kind)) = rw (moved .kind) indifferently in
-    let rest = stretch-cost id cs (step core c .core) still (both .1) in
-    go (taking id c (step core c)) (isTick c) (moved .level) (rw (moved .rate) at rest)
-  where
-    next : Core
-    next = step core c .core
+-- a stretch without its last call
+pub calm-before : (core : Core) (id : ℕ) (h : History) (c : Event)
+    → T (undisturbed id (stretch core (h then c)))
+    → T (undisturbed id (stretch core h)) × T (not (resets id c && isAccepted (step (behind core h) c .answer)))
+unfolding undisturbed traceOf dealingAt answerAt
+calm-before core id h c =
+    T-and (undisturbed id (stretch core h)) (not (resets id c && isAccepted (step (behind core h) c .answer)))
 
-    go : (a t : Bool)
-        → cond a shares 0 + clientOf next id .level ≤ clientOf core id .level + cond t (clientOf core id .rate) 0
-        → acceptances id next cs * shares ≤ clientOf next id .level + ticks cs * clientOf core id .rate
-        → oneIf a (acceptances id next cs) * shares ≤ clientOf core id .level + oneIf t (ticks cs) * clientOf core id .rate
-    go true true m rest = omega arith
-    go true false m rest = omega arith
-    go false true m rest = omega arith
-    go false false m rest = omega arith
+-- so a stretch moves the client by what was accepted, what the ticks brought and what they spilt
+module _ (core : Core) (id : ℕ) (indifferently : T (isIndifferent (clientOf core id .kind))) where
+  pub stretch-moved : (calls : History)
+      → T (undisturbed id (stretch core calls))
+      → Moved (acceptances id (stretch core calls) * shares) (ticks (stretch core calls) * clientOf core id .rate)
+      (spilt id core calls)
+      (clientOf core id)
+      (clientOf (behind core calls) id)
+  unfolding acceptances ticks spilt traceOf dealingAt answerAt after
+  stretch-moved start calm = record { kind = refl; rate = refl; burst = refl; level = omega arith }
+  stretch-moved (h then c) calm =
+      let calms = calm-before core id h c calm in
+      let moved = stretch-moved h (calms .0) in
+      let still : T (isIndifferent (clientOf (behind core h) id .kind)) = rw (moved .kind) indifferently in
+      moved-on (isOffer id c && isAccepted (step (behind core h) c .answer)) (isTick c)
+      (acceptances id (stretch core h)) (ticks (stretch core h)) moved (step-moved (behind core h) id c still (calms .1))
 
-shares-positive : 0 < shares
+pub level-after : LevelAfter
+unfolding LevelAfter
+level-after core id calls indifferently calm = stretch-moved core id indifferently calls calm .level
+
+pub shares-positive : 0 < shares
 unfolding shares
 shares-positive = lit< tt
 
 pub bound : Bound
-unfolding Bound
-bound core id stretch indifferently calm =
-    le-div-iff-mul-le shares-positive .1 (stretch-cost id stretch core indifferently calm)
+unfolding Bound bought LevelAfter
+bound core id calls indifferently calm =
+    le-div-iff-mul-le shares-positive .1 (omega (arith, level-after core id calls indifferently calm))

@@ -21,7 +21,7 @@ use Rattle.definitions.specs.Calls.{onOpen, onJoin, sideAfterChange, onC
 use Rattle.definitions.specs.Tick.{rule2, firstTurn, turnBy, turn, outcomeBy, sideAfter, refillAll, slotted, onTick}
 use Rattle.definitions.specs.Core.{whenOpened, step}
 use Rattle.definitions.specs.History.{clientOf, stockOf, generatorOf}
-use Rattle.definitions.specs.Bound.{isOpen}
+use Rattle.definitions.specs.Stretch.{isOpen}
 use Rattle.definitions.specs.Facts.{TickFacts, ChangeFacts, CheckFacts}
 use Rattle.definitions.proofs.Laws.Checked.{checked-accepted, checked-kept, refused-differs}
 use Rattle.definitions.proofs.Laws.Rules.{sent-bears}

@@ -15,5 +15,6 @@ pub mod Limits
 pub mod Fits
 pub mod Bound
 pub mod Sameness
+pub mod Stretches
 -- the versions that have to break the contract
 pub mod WrongVersions

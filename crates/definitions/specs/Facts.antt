@@ -25,7 +25,7 @@ use Rattle.definitions.specs.Tick.{rule1, rule2, rule3, ruleOf, contende
 use Rattle.definitions.specs.Core.{step}
 use Rattle.definitions.specs.History.{clientOf, stockOf, generatorOf}
 use Rattle.definitions.specs.Limits.{StateLimits}
-use Rattle.definitions.specs.Bound.{isOpen}
+use Rattle.definitions.specs.Stretch.{isOpen}
 
 -- the tick: what steps the generator, whom rule 2 picks, what is refilled
 pub record TickFacts : Type 0 where

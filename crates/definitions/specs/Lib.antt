@@ -23,9 +23,12 @@ pub mod History
 pub mod Sameness
 pub mod Limits
 pub mod Fits
+pub mod Stretch
 pub mod Bound
+pub mod Greedy
 pub mod Evenness
 pub mod Cases
+pub mod GreedyExamples
 -- what is easy to get wrong
 pub mod Facts
 -- what the claims rule out

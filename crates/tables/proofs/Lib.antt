@@ -7,6 +7,8 @@ pub mod Fields
 pub mod QueueRing
 pub mod Touch
 pub mod PoolWritten
+pub mod DefinedCalls
 pub mod Runs
+pub mod CodeStretches
 pub mod StandingPlaces
 pub mod UnusedPlaces

@@ -1,16 +1,16 @@
 -- A run of the code is the trace of the definitions, however long it is and whatever is called: its answers are theirs, and its
--- tables mean the core that they reach. By induction over the run. So demand 3 of all histories is so of all runs, and no run got
--- the answer by which a scheduler differs. Assumes nothing but the promises that a run is made of.
+-- tables mean the core that they reach, since it is the stretch of its calls from an unopened core on. So demand 3 of all
+-- histories is so of all runs, and no run got the answer by which a scheduler differs. Assumes nothing but the promises that a
+-- run is made of.
 use Prim.Native.Nat.{ℕ}
-use mathlib.Core.Path.{_≡_, refl, sym, ap, ap₂, _∙_}
+use mathlib.Core.Path.{_≡_, sym, ap, ap₂, _∙_}
 use mathlib.Core.Bool.{Bool, true, false}
-use Rattle.definitions.specs.Event.{Event}
 use Rattle.definitions.specs.declared.Answer.{Answer}
 use Rattle.definitions.specs.declared.Answer.the-variants.{Accepted}
 use Rattle.definitions.specs.State.{Core, unopened, running}
-use Rattle.definitions.specs.Core.{step}
-use Rattle.definitions.specs.History.{Place, end, before, calls, Trace, begin, _and_, Holdings, after, answerAt, dealingAt, traceOf, pickOf, drawsOf, holdingsOf, scheduler}
+use Rattle.definitions.specs.History.{Place, end, before, calls, Trace, begin, _and_, Holdings, after, answerAt, dealingAt, traceOf, holdingsOf, scheduler}
 use Rattle.definitions.specs.Sameness.{kept, LooksSame, Sameness}
+use Rattle.definitions.specs.Stretch.{stretch, behind}
 use Rattle.definitions.specs.Limits.{Limits}
 use Rattle.definitions.specs.Fits.{Fits}
 use Rattle.definitions.proofs.Laws.Tests.{true-false}
@@ -18,24 +18,33 @@ use Rattle.definitions.proofs.Sameness.Theorem.{sameness}
 use Rattle.definitions.proofs.Limits.{limits}
 use Rattle.definitions.proofs.Fits.{fits}
 use Rattle.tables.specs.declared.Control.{Control}
-use Rattle.tables.specs.declared.Answered.{Answered}
 use Rattle.tables.specs.Tables.{Tables}
 use Rattle.tables.specs.Meaning.{coreOf}
 use Rattle.tables.specs.Invariant.{Valid}
 use Rattle.tables.specs.Promise.{Meets}
-use Rattle.tables.specs.Run.{dealing, Reached, begun, called, Run, coreAfter, PlaceOf, CodeSameness, CodeValid, callsOf, CodeDefined, CodeLimits, NeverWrong}
+use Rattle.tables.specs.Run.{Reached, begun, called, Run, coreAfter, PlaceOf, CodeSameness, CodeValid, callsOf, CodeDefined, CodeLimits, NeverWrong}
 use Rattle.tables.specs.Run as run
+use Rattle.tables.specs.CallsFrom.{CallsFrom, here}
+use Rattle.tables.specs.CallsFrom as callsFrom
 use Rattle.tables.proofs.Promises.{coreOf-opened}
+use Rattle.tables.proofs.DefinedCalls.{from-core, from-trace}
 
 runs : Core → Bool
 runs unopened = false
 runs (running s) = true
 
+-- a run is calls from an unopened core on
+reached-from : {t : Trace} {c : Control} {m : Tables}
+    → Reached t c m
+    → (d : Control) × (u : Tables) × (coreOf d u ≡ unopened) × CallsFrom Meets d u t c m
+reached-from (begun {c} {t} e) = (c, t, e, here)
+reached-from (called run m) = let from = reached-from run in (from .0, from .1, from .2, callsFrom.called (from .3) m)
+
 -- the tables mean the core that the definitions reach
 reached-core : {t : Trace} {c : Control} {m : Tables} → Reached t c m → coreOf c m ≡ after scheduler (callsOf t)
-unfolding after callsOf
-reached-core (begun e) = e
-reached-core (called {call = call} run m) = m .core ∙ ap (λ (x : Core). step x call .core) (reached-core run)
+reached-core {t} run =
+    let from = reached-from run in
+    from-core (from .3) ∙ ap (λ (x : Core). behind x (callsOf t)) (from .2)
 
 -- an unopened core asks nothing of its tables, and each call leaves them valid
 reached-valid : {t : Trace} {c : Control} {m : Tables} → Reached t c m → Valid c m
@@ -47,24 +56,11 @@ pub run-valid : CodeValid
 unfolding CodeValid
 run-valid run = reached-valid (run .reached)
 
--- the next call is dealt with as the definitions say
-reached-dealing : {t : Trace} {c : Control} {m u : Tables} {call : Event} {r : Answered}
-    → Reached t c m
-    → Meets call c m r u
-    → dealing call c m r ≡ dealingAt scheduler (callsOf t) call
-unfolding answerAt dealingAt
-reached-dealing {call = call} run m = λ i. record {
-  event = call;
-  answer = (m .answer ∙ ap (λ (x : Core). step x call .answer) (reached-core run)) i;
-  pick = ap pickOf (reached-core run) i;
-  draws = ap drawsOf (reached-core run) i;
-}
-
--- so what was called and what it got is what the definitions give to the same calls
+-- what was called and what it got is what the definitions give to the same calls
 reached-trace : {t : Trace} {c : Control} {m : Tables} → Reached t c m → t ≡ traceOf scheduler (callsOf t)
-unfolding traceOf callsOf
-reached-trace (begun e) = refl
-reached-trace (called run m) = ap₂ _and_ (reached-trace run) (reached-dealing run m)
+reached-trace {t} run =
+    let from = reached-from run in
+    from-trace (from .3) ∙ ap (λ (x : Core). stretch x (callsOf t)) (from .2)
 
 pub run-defined : CodeDefined
 unfolding CodeDefined coreAfter

@@ -1,13 +1,12 @@
 -- What stands in places where no packet waits is never seen. The meaning reads the places of the queues, and those of the order,
 -- which are places of indifferent queues; so two cores that are the same there mean one core. Calls that keep their promise go by
--- the meaning alone, so they cannot tell them apart, however many follow: by induction over the calls. Assumes nothing.
+-- the meaning alone, so they cannot tell them apart, however many follow: both are the stretch of that core. Assumes nothing.
 use Prim.Native.Nat.{ℕ, _<_}
 use mathlib.Core.Path.{_≡_, refl, sym, ap, ap₂, subst, fun-ext, _∙_}
 use mathlib.Core.Logic.{_≢_}
 use mathlib.Core.Bool.{Bool, true, false, cond, not, _&&_}
 use mathlib.Core.List.{List, [], _∷_, map}
 use native.Mathlib.Nat.{div-lt-iff-lt-mul}
-use native.Mathlib.Omega.{arith}
 use lib.Dec.{eqb, ltb}
 use lib.ListN.{length, getD, set, length-set}
 use lib.Seq.{getD-set-other}
@@ -21,7 +20,8 @@ use Rattle.definitions.specs.Checks.{Result, unchanged, openChecks, rates}
 use Rattle.definitions.specs.Event.{Event, Open}
 use Rattle.definitions.specs.Calls.{onOpen}
 use Rattle.definitions.specs.Core.{step}
-use Rattle.definitions.specs.History.{Trace, _and_, pickOf, drawsOf}
+use Rattle.definitions.specs.History.{Trace}
+use Rattle.definitions.specs.Stretch.{stretch, behind}
 use Rattle.definitions.proofs.Laws.Tests.{eqb-same}
 use Rattle.definitions.proofs.Laws.Checked.{checked-anyway}
 use Rattle.marks.specs.Marks.{marked}
@@ -35,10 +35,11 @@ use Rattle.tables.specs.Tables.{Tables, tables, headAt, countAt, ring}
 use Rattle.tables.specs.Meaning.{kindAt, packetAt, queueAt, clientAt, clientsOf, stockAt, stocksOf, orderOf, sideOf, stateOf, coreOf}
 use Rattle.tables.specs.Invariant.{Shape, Valid}
 use Rattle.tables.specs.Promise.{Meets}
-use Rattle.tables.specs.Run.{dealing, callsOf}
+use Rattle.tables.specs.Run.{callsOf}
 use Rattle.tables.specs.Unused.{waitingPlaces, SameLinks, SamePlace, SameWhereWaiting, DifferUnused, Unused, overwritten}
-use Rattle.tables.specs.CallsFrom.{CallsFrom, here, called}
+use Rattle.tables.specs.CallsFrom.{CallsFrom}
 use Rattle.tables.specs.Unseen.{Indistinct, Laid, UnusedUnseen}
+use Rattle.tables.proofs.DefinedCalls.{from-core, from-trace}
 use Rattle.tables.proofs.Fields.{places-positive, ring-length}
 use Rattle.tables.proofs.QueueRing.{packets-same}
 
@@ -208,32 +209,17 @@ module _ {call : Event} {c d : Control} {t u v w : Tables} {r q : Answered}
     core-after : coreOf (q .control) w ≡ coreOf (r .control) v
     core-after = n .core ∙ ap (λ (x : Core). step x call .core) same ∙ sym (m .core)
 
-    dealing-same : dealing call d u q ≡ dealing call c t r
-    dealing-same = λ i. record {
-      event = call;
-      answer = answer-same i;
-      pick = ap pickOf same i;
-      draws = ap drawsOf same i;
-    }
-
--- any calls: at each the two cores mean the same, so it gets the same
+-- any calls: both are the stretch of the one core that the two mean
 calls-same : {c d : Control} {t u : Tables} {first second : Trace} {e f : Control} {v w : Tables}
     → coreOf d u ≡ coreOf c t
     → CallsFrom Meets c t first e v
     → CallsFrom Meets d u second f w
     → callsOf second ≡ callsOf first
     → (second ≡ first) × (coreOf f w ≡ coreOf e v)
-unfolding callsOf
-calls-same same here here agree = (refl, same)
-calls-same same here (called y n) agree = let no : _≡_ {A = ℕ} 0 1 = cc in absurd (omega arith)
-calls-same same (called x m) here agree = let no : _≡_ {A = ℕ} 0 1 = cc in absurd (omega arith)
-calls-same same (called {trace = first} {call = call} x m)
-    (called {trace = second} {d = d} {u = u} {v = w} {call = other} {r = q} y n)
-    agree =
-    let before : (second ≡ first) × _ = calls-same same x y (cc) in
-    let one : other ≡ call = cc in
-    let n′ : Meets call d u q w = subst (λ (x : Event). Meets x d u q w) one n in
-    (ap₂ _and_ (before .0) (ap (λ (x : Event). dealing x d u q) one ∙ dealing-same (before .1) m n′), core-after (before .1) m n′)
+calls-same same x y agree = (
+  from-trace y ∙ ap₂ stretch same agree ∙ sym (from-trace x),
+  from-core y ∙ ap₂ behind same agree ∙ sym (from-core x),
+)
 
 pub indistinct : {c d : Control} {t u : Tables} → coreOf d u ≡ coreOf c t → Indistinct c t d u
 indistinct same = record {

@@ -8,6 +8,7 @@ pub mod Numbers
 pub mod Promise
 pub mod Run
 pub mod CallsFrom
+pub mod CodeStretch
 pub mod Places
 pub mod Unused
 pub mod Unseen

@@ -1,14 +1,16 @@
 -- What a checked call gives: the number of a refusal and the core that it leaves, or what is done once every check is passed.
 -- By induction over the checks. Assumes nothing.
-use Prim.Native.Nat.{ℕ}
+use Prim.Native.Nat.{ℕ, _<_}
 use mathlib.Core.Path.{_≡_, refl}
-use mathlib.Core.Logic.{_≢_}
-use mathlib.Core.Bool.{Bool, true, false, cond}
+use mathlib.Core.Logic.{_≢_, _⊎_, inl, inr}
+use mathlib.Core.Bool.{Bool, true, false, cond, not, _&&_}
 use mathlib.Core.List.{List, [], _∷_}
 use native.Mathlib.Omega.{arith}
+use lib.Dec.{T}
 use Rattle.definitions.specs.declared.Answer.{Answer}
 use Rattle.definitions.specs.declared.Answer.the-variants.{Accepted, Refused}
-use Rattle.definitions.specs.State.{State, Core}
+use Rattle.definitions.specs.State.{State, Core, running}
+use Rattle.definitions.specs.Answers.{number, isAccepted}
 use Rattle.definitions.specs.Checks.{Result, Check, accepted, refused, checked, unchanged}
 
 -- that every check of a list is passed
@@ -72,3 +74,49 @@ checked-kept cs before s =
     checked-cases (λ r. r .answer ≢ Accepted → r .core ≡ before) cs (unchanged before) (accepted s)
     (λ n e. refl)
     (λ passed e. absurd (e refl))
+
+-- that of a list of checks the first that fails has the number
+abbrev pub FirstFailed : ℕ → List Check → Type 0
+FirstFailed n [] = ⊥
+FirstFailed n (c ∷ cs) = ((c .passed ≡ false) × (c .number ≡ n)) ⊎ ((c .passed ≡ true) × FirstFailed n cs)
+
+-- a refusal tells which check failed
+pub checked-first : (n : ℕ) (cs : List Check) (left : ℕ → Core) (s : State)
+    → 0 < n
+    → number (checked cs left (accepted s) .answer) ≡ n
+    → FirstFailed n cs
+unfolding checked number
+checked-first n [] left s positive e = omega arith
+checked-first n (c ∷ cs) left s positive e = go (c .passed) (checked-first n cs left s positive) e
+  where
+    go : (b : Bool)
+        → (number (checked cs left (accepted s) .answer) ≡ n → FirstFailed n cs)
+        → number (cond b (checked cs left (accepted s)) (refused (c .number) (left (c .number))) .answer) ≡ n
+        → ((b ≡ false) × (c .number ≡ n)) ⊎ ((b ≡ true) × FirstFailed n cs)
+    go true rest e = inr (refl, rest e)
+    go false rest e = inl (refl, e)
+
+-- A call that keeps the core or, where it is accepted, is none that resets: what holds of the core as it was, and of the core
+-- that such a call makes, holds of the core after it. What holds may tell whether an arrival was accepted.
+pub checked-spared : (P : Bool → Core → Type 0) (s : State) (reset arrival : Bool) (cs : List Check) (made : State)
+    → P false (running s)
+    → (Passed cs → reset ≡ false → P arrival (running made))
+    → T (not (reset && isAccepted (checked cs (unchanged (running s)) (accepted made) .answer)))
+    → P (arrival && isAccepted (checked cs (unchanged (running s)) (accepted made) .answer))
+    (checked cs (unchanged (running s)) (accepted made) .core)
+unfolding isAccepted
+checked-spared P s reset arrival cs made kept done =
+    checked-cases (λ r. T (not (reset && isAccepted (r .answer))) → P (arrival && isAccepted (r .answer)) (r .core))
+    cs (unchanged (running s)) (accepted made)
+    (λ number spared. refusal arrival)
+    (λ passed spared. acceptance arrival reset spared (done passed))
+  where
+    refusal : (a : Bool) → P (a && false) (running s)
+    refusal true = kept
+    refusal false = kept
+
+    acceptance : (a r : Bool) → T (not (r && true)) → (r ≡ false → P a (running made)) → P (a && true) (running made)
+    acceptance true true t m = absurd t
+    acceptance true false t m = m refl
+    acceptance false true t m = absurd t
+    acceptance false false t m = m refl

@@ -1,6 +1,7 @@
 -- What a test decides, over any arguments. Each holds by splitting the test. Assumes nothing.
 use Prim.Native.Nat.{ℕ, suc, _≤_, _<_}
 use mathlib.Core.Path.{_≡_, refl, sym, _∙_}
+use mathlib.Core.Logic.{_⊎_, inl, inr}
 use mathlib.Core.Bool.{Bool, true, false, cond, _&&_, _||_, true≢false}
 use native.Mathlib.Omega.{arith}
 use lib.Dec.{T, eqb, leb, ltb}
@@ -47,6 +48,10 @@ cond-same false x = refl
 pub T-and : (a b : Bool) → T (a && b) → T a × T b
 T-and true b t = (tt, t)
 T-and false b t = absurd t
+
+pub T-or : (a b : Bool) → T (a || b) → T a ⊎ T b
+T-or true b t = inl tt
+T-or false b t = inr t
 
 pub and-both : (a b : Bool) → (a && b) ≡ true → (a ≡ true) × (b ≡ true)
 and-both true b e = (refl, e)

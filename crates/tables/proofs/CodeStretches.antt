@@ -1,0 +1,48 @@
+-- The calls behind a run are a stretch of the definitions, from the core that the tables of the run mean; so the bound and S-10
+-- hold of the answers that the code gave. That the rate is within its limit is one of the limits of a run. Assumes nothing.
+use Prim.Native.Nat.{_≤_}
+use mathlib.Core.Path.{_≡_, subst⁻¹}
+use lib.Dec.{T}
+use Rattle.definitions.specs.Client.{isIndifferent}
+use Rattle.definitions.specs.History.{History, Trace, clientOf}
+use Rattle.definitions.specs.Stretch.{stretch, ticks, undisturbed, acceptances, bought}
+use Rattle.definitions.specs.Bound.{Bound}
+use Rattle.definitions.specs.Greedy.{Greedy}
+use Rattle.definitions.proofs.Bound.{bound}
+use Rattle.definitions.proofs.Stretches.Greedy.{rate-limited, greedy-exact}
+use Rattle.tables.specs.declared.Control.{Control}
+use Rattle.tables.specs.Tables.{Tables}
+use Rattle.tables.specs.Meaning.{coreOf}
+use Rattle.tables.specs.Promise.{Meets}
+use Rattle.tables.specs.Run.{coreAfter, callsOf}
+use Rattle.tables.specs.CallsFrom.{CallsFrom}
+use Rattle.tables.specs.CodeStretch.{CodeStretch}
+use Rattle.tables.proofs.DefinedCalls.{from-trace}
+use Rattle.tables.proofs.Runs.{run-limits}
+
+-- what is so of every stretch of the definitions from a core on is so of the traces of calls from tables that mean it
+of-calls : (P : Trace → Type 0) {c d : Control} {t u : Tables} {trace : Trace}
+    → CallsFrom Meets c t trace d u
+    → ((calls : History) → P (stretch (coreOf c t) calls))
+    → P trace
+of-calls P {trace = trace} calls all = subst⁻¹ P (from-trace calls) (all (callsOf trace))
+
+pub code-stretch : CodeStretch
+unfolding Bound coreAfter
+code-stretch = record {
+  bound = λ run id calls.
+      of-calls
+      (λ t. T (isIndifferent (clientOf (coreAfter run) id .kind))
+      → T (undisturbed id t)
+      → acceptances id t ≤ bought (clientOf (coreAfter run) id) (ticks t))
+      calls
+      (bound (coreAfter run) id);
+  greedy = λ run id calls.
+      of-calls
+      (λ t. Greedy id (clientOf (coreAfter run) id) t → acceptances id t ≡ bought (clientOf (coreAfter run) id) (ticks t))
+      calls
+      (λ history greedy.
+      greedy-exact .anywhere (coreAfter run) id history
+      (rate-limited (coreAfter run) id (run-limits .limits run) (greedy .indifferently))
+      greedy);
+}

@@ -1,0 +1,28 @@
+-- What an indifferent client's packets get of the code, in any calls behind any run, each keeping its promise: the bound of paper
+-- 01 and S-10 of paper 02. What is accepted, refused and ticked is read off the answers that the code gave; the client's terms
+-- are those that the tables of the run mean.
+use Prim.Native.Nat.{ℕ, _≤_}
+use mathlib.Core.Path.{_≡_}
+use lib.Dec.{T}
+use Rattle.definitions.specs.Client.{isIndifferent}
+use Rattle.definitions.specs.History.{Trace, clientOf}
+use Rattle.definitions.specs.Stretch.{ticks, undisturbed, acceptances, bought}
+use Rattle.definitions.specs.Greedy.{Greedy}
+use Rattle.tables.specs.declared.Control.{Control}
+use Rattle.tables.specs.Tables.{Tables}
+use Rattle.tables.specs.Promise.{Meets}
+use Rattle.tables.specs.Run.{Run, coreAfter}
+use Rattle.tables.specs.CallsFrom.{CallsFrom}
+
+pub record CodeStretch : Type 0 where
+  -- "an indifferent client is accepted at most (level at the start + n × rate) / 1024 times, rounded down"
+  pub bound : (run : Run) (id : ℕ) {t : Trace} {c : Control} {u : Tables}
+      → CallsFrom Meets (run .control) (run .tables) t c u
+      → T (isIndifferent (clientOf (coreAfter run) id .kind))
+      → T (undisturbed id t)
+      → acceptances id t ≤ bought (clientOf (coreAfter run) id) (ticks t)
+  -- "the number accepted over n ticks is exactly (level at the start + n × rate) / 1024, rounded down"
+  pub greedy : (run : Run) (id : ℕ) {t : Trace} {c : Control} {u : Tables}
+      → CallsFrom Meets (run .control) (run .tables) t c u
+      → Greedy id (clientOf (coreAfter run) id) t
+      → acceptances id t ≡ bought (clientOf (coreAfter run) id) (ticks t)
