@@ -19,11 +19,17 @@ impl Maker {
     }
 
     /// "Each call takes four draws, a, b, c and d, in this order, whatever call it is."
-    pub fn next_call(&mut self) -> Call {
+    pub fn draws(&mut self) -> [u32; 4] {
         let a = self.draw();
         let b = self.draw();
         let c = self.draw();
         let d = self.draw();
+        [a, b, c, d]
+    }
+
+    /// The next call of a long run: the table of calls, "With k = a mod 4096".
+    pub fn next_call(&mut self) -> Call {
+        let [a, b, c, d] = self.draws();
         call(a % 4096, b, c, d)
     }
 }
@@ -47,8 +53,13 @@ fn burst_of(kind: u32, d: u32) -> u32 {
     }
 }
 
-/// The table of calls, with k = a mod 4096.
-fn call(k: u32, b: u32, c: u32, d: u32) -> Call {
+/// "arrive: id, a packet with handle d and length 63 + c mod 1457"
+pub fn arrival(id: u32, c: u32, d: u32) -> Call {
+    Call::Arrive { id, handle: d, length: 63 + c % 1457 }
+}
+
+/// The table of calls, by k.
+pub fn call(k: u32, b: u32, c: u32, d: u32) -> Call {
     let id = id_of(b);
     let kind = c % 3; // "A type is c mod 3."
     let rate = d % 33; // "A rate is d mod 33."
@@ -59,7 +70,7 @@ fn call(k: u32, b: u32, c: u32, d: u32) -> Call {
         161..=240 => Call::Change { id, kind, rate, burst },
         241..=260 => Call::Leave { id },
         261..=516 => Call::Load { id, count: c % 130 },
-        517..=3395 => Call::Arrive { id, handle: d, length: 63 + c % 1457 },
+        517..=3395 => arrival(id, c, d),
         _ => Call::Tick,
     }
 }
