@@ -1,6 +1,6 @@
-//! The printed example, P1 to P12, every number of the table, the draw of S-1, and the grammar of
-//! the script. Expected values are the papers' own; the seeds and values of S-1's draws were
-//! reckoned apart from this program.
+//! The printed example, P1 to P12, every number of the table, the draw of S-1, the stretch of S-10,
+//! and the grammar of the script. Expected values are the papers' own; the seeds and values of
+//! S-1's draws were reckoned apart from this program.
 
 use crate::core::{even_draw, xorshift32, Answer, Call, Core, Draw, Opened, Outcome, INDIFFERENT,
                   PRIVATE};
@@ -410,6 +410,183 @@ fn s1_no_draw() {
     arrive(&mut core, 2, 1, 64);
     core.perform(&Call::Tick);
     assert_eq!(opened(&core).generator, 1584200935);
+}
+
+/// What a stretch of S-10 gave: the number accepted over n ticks for each n from 0, and whether the
+/// client met 14.
+struct Stretch {
+    accepted: Vec<u32>,
+    met_14: bool,
+}
+
+/// S-10: client 9 "offers packets until it is refused 15" (or meets 14), `most` of them at most.
+/// Gives the number accepted and the last refusal, 0 if there was none. A packet refused with 13
+/// neither counts nor ends the offering.
+fn offer(core: &mut Core, most: u32) -> (u32, u32) {
+    for accepted in 0..most {
+        assert_eq!(arrive(core, 9, accepted, 63), Answer::Refused(13));
+        if let Answer::Refused(number) = arrive(core, 9, accepted, 64) {
+            assert!(number == 14 || number == 15);
+            return (accepted, number);
+        }
+    }
+    (most, 0)
+}
+
+/// S-10: a stretch of so many ticks, in which client 9 offers "before the first tick of a stretch
+/// and after each tick". Calls of others come before and after each tick.
+fn stretch(core: &mut Core, ticks: u32, most: u32, others: fn(&mut Core, u32)) -> Stretch {
+    let (mut sum, end) = offer(core, most);
+    let mut result = Stretch { accepted: vec![sum], met_14: end == 14 };
+    for n in 1..=ticks {
+        others(core, 2 * n);
+        core.perform(&Call::Tick);
+        others(core, 2 * n + 1);
+        let (accepted, end) = offer(core, most);
+        sum += accepted;
+        result.accepted.push(sum);
+        result.met_14 |= end == 14;
+    }
+    result
+}
+
+/// S-10: "(level at the start + n × rate) / 1024, rounded down", for each n from 0.
+fn bought(start: u32, rate: u32, ticks: u32) -> Vec<u32> {
+    (0..=ticks).map(|n| (start + n * rate) / 1024).collect()
+}
+
+/// A core with client 9, whose bucket is full.
+fn core_with_9(discipline: u32, rate: u32, burst: u32) -> Core {
+    let mut core = Core::new();
+    open(&mut core, 1024, discipline, 1584200935);
+    assert_eq!(join(&mut core, 9, INDIFFERENT, rate, burst), Answer::Accepted);
+    core
+}
+
+fn no_others(_: &mut Core, _: u32) {}
+
+/// Calls of clients 3 (indifferent) and 12 (private, and at times indifferent); beside a client 9
+/// that has all shares they are all refused.
+fn some_others(core: &mut Core, n: u32) {
+    match n % 11 {
+        0 => join(core, 3, INDIFFERENT, 1, 4),
+        1 => join(core, 12, PRIVATE, 300, 0),
+        2 => change(core, 12, INDIFFERENT, 200, 3),
+        3 => change(core, 12, PRIVATE, 100, 0),
+        4 => load(core, 12, 9),
+        5 if n % 5 == 0 => core.perform(&Call::Leave { id: 3 }),
+        6 if n % 7 == 0 => core.perform(&Call::Leave { id: 12 }),
+        7 | 8 => arrive(core, 12, n, 1000),
+        _ => arrive(core, 3, n, 100),
+    };
+}
+
+/// S-10: "the number accepted over n ticks is exactly (level at the start + n × rate) / 1024,
+/// rounded down", for burst 2 and n from 0 to 2500. The start is a full bucket, or, if `before` is
+/// not 0, what so many ticks put into one just emptied.
+fn exact(rate: u32, before: u32, discipline: u32, others: fn(&mut Core, u32)) {
+    let mut core = core_with_9(discipline, rate, 2);
+    if before > 0 {
+        assert_eq!(offer(&mut core, 9), (2, 15));
+    }
+    for _ in 0..before {
+        core.perform(&Call::Tick);
+    }
+    let start = level(&core, 9);
+    let result = stretch(&mut core, 2500, 9, others);
+    assert!(!result.met_14);
+    assert_eq!(result.accepted, bought(start, rate, 2500), "{} {}", rate, before);
+}
+
+#[test]
+fn s10_exact() {
+    for rate in [1, 341, 1023, 1024] {
+        for before in [0, 1, 2, 5] {
+            for discipline in [0, 1] {
+                exact(rate, before, discipline, no_others);
+                exact(rate, before, discipline, some_others);
+            }
+        }
+    }
+}
+
+/// The calls of the others are not all refused, and their packets go out among those of client 9.
+#[test]
+fn s10_others_are_served() {
+    let mut core = core_with_9(1, 341, 2);
+    let mut ids = Vec::new();
+    for n in 0..500 {
+        offer(&mut core, 9);
+        some_others(&mut core, n);
+        if let Answer::Slot(Outcome::Real { id, .. }) = core.perform(&Call::Tick) {
+            ids.push(id);
+        }
+    }
+    assert!(ids.contains(&3) && ids.contains(&9) && ids.contains(&12));
+}
+
+/// "of burst 2 or more": with burst 1 what passes 1024 at a refill is lost. At 1023 every second
+/// tick fills the bucket, at 341 every fourth; 1 and 1024 lose nothing.
+#[test]
+fn s10_burst_1() {
+    for (rate, period) in [(1023, 2), (341, 4), (1, 1024), (1024, 1)] {
+        let mut core = core_with_9(0, rate, 1);
+        let result = stretch(&mut core, 2500, 9, some_others);
+        let wanted: Vec<u32> = (0..=2500).map(|n| 1 + n / period).collect();
+        assert!(!result.met_14);
+        assert_eq!(result.accepted, wanted);
+        assert_eq!(wanted == bought(1024, rate, 2500), rate == 1 || rate == 1024);
+    }
+    assert_eq!(bought(1024, 1023, 3), [1, 1, 2, 3]); // where 1, 1, 2, 2 are accepted
+}
+
+/// "never meeting 14": before the first tick, of 33 bought only 32 have a place.
+#[test]
+fn s10_meets_14_at_once() {
+    let mut core = core_with_9(0, 1, 33);
+    let result = stretch(&mut core, 0, 99, no_others);
+    assert!(result.met_14);
+    assert_eq!(result.accepted, [32]);
+    assert_eq!(bought(33 * 1024, 1, 0), [33]);
+}
+
+/// Behind 32 packets of another client a burst of 2 is enough to meet 14: after tick 31 client 9
+/// has 32 waiting and gets 14, though its level is below 1024 too ("Checks run down the table").
+/// What it got is exact up to there, and one short after ticks 32 and 33.
+#[test]
+fn s10_meets_14_later() {
+    for ticks in [30, 31, 33] {
+        let mut core = core_with_9(0, 1023, 2);
+        join(&mut core, 3, INDIFFERENT, 1, 64);
+        for handle in 0..32 {
+            assert_eq!(arrive(&mut core, 3, handle, 64), Answer::Accepted);
+        }
+        let result = stretch(&mut core, ticks, 9, no_others);
+        assert_eq!(result.met_14, ticks > 30);
+        let mut wanted = bought(2048, 1023, 33);
+        assert_eq!(wanted[30..], [31, 32, 33, 34]);
+        wanted[32..].copy_from_slice(&[32, 33]);
+        assert_eq!(result.accepted, wanted[..=ticks as usize]);
+    }
+}
+
+/// "until it is refused 15": one that stops after one packet each time is one behind at rate 1024.
+/// "after each tick": so is one that is silent after two ticks and then offers again.
+#[test]
+fn s10_stops_early() {
+    let mut core = core_with_9(0, 1024, 2);
+    let result = stretch(&mut core, 300, 1, some_others);
+    let wanted: Vec<u32> = (0..=300).map(|n| n + 1).collect();
+    assert_eq!(result.accepted, wanted);
+    assert_eq!(bought(2048, 1024, 300)[300], 302);
+    let mut core = core_with_9(0, 1024, 2);
+    let before = stretch(&mut core, 10, 9, some_others).accepted[10];
+    core.perform(&Call::Tick);
+    core.perform(&Call::Tick);
+    core.perform(&Call::Tick);
+    let after = stretch(&mut core, 10, 9, some_others).accepted[10];
+    assert_eq!((before, after), (12, 12));
+    assert_eq!(bought(2048, 1024, 23)[23], 25);
 }
 
 #[test]
