@@ -13,6 +13,7 @@ use Rattle.definitions.specs.Stock.{bare}
 use Rattle.definitions.specs.State.{Core, running, put}
 use Rattle.definitions.specs.Cases.{arrival}
 use Rattle.definitions.specs.History.{History, start, _then_, after, scheduler, clientOf}
+use Rattle.definitions.specs.Limits.{CoreLimits}
 use Rattle.definitions.specs.Stretch.{stretch, behind, ticks, undisturbed, acceptances, bought}
 use Rattle.definitions.specs.Greedy.{refusedEver, offersUntil, Greedy}
 
@@ -104,6 +105,8 @@ pub record GreedyNeeded : Type 0 where
   -- every offering ends with 14: as many packets wait as there are places
   pub full : Fewer (sole 512 2 2048 places) (offeredOver thrice 1) (true ∷ false ∷ false ∷ true ∷ [])
   pub untilFull : T (offersUntil 3 14 (stretch (sole 512 2 2048 places) (offeredOver thrice 1)))
+  -- from a core within the limits
+  pub fullWithin : CoreLimits (sole 512 2 2048 places)
   -- it changes to a lower rate
   pub changed : Fewer (joined 1000 2) (thrice (thrice (thrice (start then Change 3 indifferentKind 1 2) then Tick) then Tick))
       (true ∷ true ∷ true ∷ false ∷ [])
