@@ -21,7 +21,7 @@ use Rattle.definitions.specs.Tick.{onTick}
 use Rattle.definitions.specs.Core.{step}
 use Rattle.definitions.specs.History.{History, start, _then_, after, answerAt, dealingAt, traceOf, clientOf}
 use Rattle.definitions.specs.Sameness.{names, isSetting, isArrival, isTick}
-use Rattle.definitions.specs.Stretch.{stretch, behind, oneIf, isOpen, ticks, resets, isOffer, undisturbed, acceptances, bought}
+use Rattle.definitions.specs.Stretch.{stretch, behind, oneIf, isOpen, ticks, resets, isOffer, undisturbed, acceptances, tokens}
 use Rattle.definitions.specs.Bound.{spill, spilt, LevelAfter, Bound}
 use Rattle.definitions.proofs.Laws.Tests.{T-and}
 use Rattle.definitions.proofs.Laws.Checked.{Passed, checked-spared}
@@ -207,6 +207,6 @@ unfolding shares
 shares-positive = lit< tt
 
 pub bound : Bound
-unfolding Bound bought LevelAfter
+unfolding Bound tokens LevelAfter
 bound core id calls indifferently calm =
     le-div-iff-mul-le shares-positive .1 (omega (arith, level-after core id calls indifferently calm))

@@ -66,6 +66,10 @@ module _ (id : ℕ) where
   acceptances begin = 0
   acceptances (t and d) = oneIf (isOffer (d .event) && isAccepted (d .answer)) (acceptances t)
 
--- "(level at the start + n × rate) / 1024 .., rounded down": what a client has bought over n ticks
-unfoldable pub bought : Client → ℕ → ℕ
-bought c n = (c .level + n * c .rate) / shares
+-- "(level at the start + n × rate) / 1024 .., rounded down"
+unfoldable pub tokens : ℕ → ℕ → ℕ → ℕ
+tokens level rate n = (level + n * rate) / shares
+
+-- what a client has bought over n ticks
+abbrev pub bought : Client → ℕ → ℕ
+bought c n = tokens (c .level) (c .rate) n

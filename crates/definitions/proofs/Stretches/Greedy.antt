@@ -13,7 +13,7 @@ use Rattle.definitions.specs.State.{Core, unopened, running}
 use Rattle.definitions.specs.History.{History, start, _then_, after, clientOf, scheduler}
 use Rattle.definitions.specs.Sameness.{isTick}
 use Rattle.definitions.specs.Limits.{LimitsBy, CoreLimits, Limits}
-use Rattle.definitions.specs.Stretch.{stretch, behind, ticks, undisturbed, acceptances, bought}
+use Rattle.definitions.specs.Stretch.{stretch, behind, ticks, undisturbed, acceptances, tokens, bought}
 use Rattle.definitions.specs.Bound.{spill, spilt, LevelAfter}
 use Rattle.definitions.specs.Greedy.{refusedSince, refusedAtTicks, Greedy, GreedyExact}
 use Rattle.definitions.proofs.Laws.Tests.{T-and}
@@ -54,7 +54,7 @@ module _ (core : Core) (id : ℕ) (calls : History) (within : clientOf core id .
       go false e ended none = omega arith
 
   exact : acceptances id (stretch core calls) ≡ bought (clientOf core id) (ticks (stretch core calls))
-  unfolding bought LevelAfter
+  unfolding tokens LevelAfter
   exact =
       let ends = T-and (refusedAtTicks id 15 (stretch core calls)) (refusedSince id 15 (stretch core calls)) (greedy .offers) in
       let o = offering core id (greedy .indifferently) calls (greedy .calm) (ends .0) in

@@ -15,7 +15,7 @@ use Rattle.definitions.specs.Checks.{activeRate, rates}
 use Rattle.definitions.specs.History.{Trace, after, answerAt, dealingAt, traceOf}
 use Rattle.definitions.specs.Sameness.{names, isSetting, isArrival, isTick}
 use Rattle.definitions.specs.Limits.{LengthsFit, ClientLimits, StockLimits, standing, ordered, CoreLimits}
-use Rattle.definitions.specs.Stretch.{stretch, isOpen, ticks, resets, isOffer, undisturbed, acceptances, bought}
+use Rattle.definitions.specs.Stretch.{stretch, isOpen, ticks, resets, isOffer, undisturbed, acceptances, tokens}
 use Rattle.definitions.specs.Greedy.{isRefused, refusedEver, refusedSince, refusedAtTicks, offersUntil}
 use Rattle.definitions.specs.GreedyExamples.{idle, joined, offeredOver, among, GreedyOver, GreedyThere, conditions, sole, GreedyNeeded}
 use Rattle.definitions.proofs.Laws.Tests.{cond-same, eqb-cases, eqb-comm}
@@ -24,7 +24,7 @@ use Rattle.definitions.proofs.Everything.{everything}
 -- what the examples compute with
 unfoldable computed : Type 0
 unfolding everything after answerAt dealingAt traceOf names isSetting isArrival isTick isOpen ticks resets isOffer undisturbed
-    acceptances bought isRefused refusedEver refusedSince refusedAtTicks idle joined offeredOver conditions sole
+    acceptances tokens isRefused refusedEver refusedSince refusedAtTicks idle joined offeredOver conditions sole
 computed = Unit {0}
 
 module _ (n accepted : ℕ) where
