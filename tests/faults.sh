@@ -3,7 +3,8 @@
 # of paper 02 does away with, and runs the tests on it.
 #   tests/faults.sh BUILD    in the root of the repository, after the build of tests/run
 # `compare` and the long run must catch all seven, `pairs` the first four (the others cannot be seen by pairs, see
-# src/pairs.rs), `stretches` all but 5b (which needs longer queues than fit a stretch).
+# src/pairs.rs), `stretches` all but 5b (which needs longer queues than fit a stretch). What a greedy client gets is wrong with 5
+# alone: the other faults take no token from a client that meets no 14.
 # Prints a line for each; the printouts stay in BUILD/fault-N.
 build=$1 passed=0 failed=0
 
@@ -35,13 +36,13 @@ for fault in 1 2 3 4 5 5b 6; do
     folder=$build/fault-$fault
     rm -rf "$folder" && mkdir -p "$folder" && cp -r second/src "$folder/src" || exit 2
     patch -s -p1 -d "$folder" <"second/faults/$fault.patch" || exit 2
-    for program in main long; do
+    for program in main long greedy; do
         rustc -O --edition 2021 "$folder/src/$program.rs" -o "$folder/$program" || exit 2
     done
     mv "$folder/main" "$folder/slots"
-    in_pairs=caught in_stretches=caught
+    in_pairs=caught in_stretches=caught in_counts="not seen"
     case $fault in 5* | 6) in_pairs="not seen" ;; esac
-    case $fault in 5b) in_stretches="not seen" ;; esac
+    case $fault in 5b) in_stretches="not seen" ;; 5) in_counts=caught ;; esac
     try $fault compare caught 1 2000
     try $fault pairs "$in_pairs" 1 300
     try $fault stretches "$in_stretches" 1 1
@@ -50,6 +51,10 @@ for fault in 1 2 3 4 5 5b 6; do
     elif cmp "$build/long.txt" "$folder/long.txt" >"$folder/cmp.txt"; then found="not seen"
     else found=caught; fi
     judge $fault "the long run" "$found" caught "$(sed 's/.*, //' "$folder/cmp.txt")"
+    if ! "$folder/greedy" 1 1 >"$folder/greedy.txt"; then found="not tried"
+    elif tests/exact.sh <"$folder/greedy.txt" >"$folder/exact.txt"; then found="not seen"
+    else found=caught; fi
+    judge $fault "the count of a greedy client" "$found" "$in_counts" "$(cat "$folder/exact.txt")"
 done
 echo "$passed passed, $failed failed"
 [ "$failed" = 0 ]

@@ -1,5 +1,5 @@
--- That there are greedy clients, and that each condition of S-10 (paper 02) is needed: without it fewer packets are accepted
--- than were bought. All are computed. Client 3 is the one that offers.
+-- That there are greedy clients, and why S-10 (paper 02) has its conditions: where one of them is not met, fewer packets may be
+-- accepted than were bought. All are computed. Client 3 is the one that offers.
 use Prim.Native.Nat.{ℕ, zero, suc, _<_}
 use mathlib.Core.Path.{_≡_}
 use mathlib.Core.Bool.{Bool, true, false, not}
@@ -56,6 +56,7 @@ pub record GreedyOver (n accepted : ℕ) : Type 0 where
 
 -- there are such stretches, for several n
 pub record GreedyThere : Type 0 where
+  pub filled : clientOf (joined 700 2) 3 .level ≡ 2048
   pub over0 : GreedyOver 0 2
   pub over1 : GreedyOver 1 2
   pub over2 : GreedyOver 2 3
@@ -93,7 +94,7 @@ sole rate burst level waiting = running (record {
   };
 })
 
--- Each condition is needed.
+-- a stretch in which one condition is not met, for each but that the client is indifferent
 pub record GreedyNeeded : Type 0 where
   -- of burst 1 a bucket with less than a token has no room for a rate of 1000: every second refill spills
   pub burstOne : Fewer (joined 1000 1) (offeredOver thrice 3) (false ∷ true ∷ true ∷ true ∷ [])

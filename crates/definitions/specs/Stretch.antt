@@ -10,7 +10,7 @@ use Rattle.definitions.specs.Answers.{isAccepted}
 use Rattle.definitions.specs.History.{History, Trace, begin, _and_, Scheduler, after, traceOf, scheduler}
 use Rattle.definitions.specs.Sameness.{names, isSetting, isArrival, isTick}
 
--- the defined scheduler, begun with a core
+-- the defined scheduler, begun with any core in place of an unopened one
 abbrev pub schedulerFrom : Core → Scheduler
 schedulerFrom core = record {
   Inside = Core;

@@ -43,6 +43,7 @@ module _ (n accepted : ℕ) where
 pub greedy-there : GreedyThere
 unfolding computed
 greedy-there = record {
+  filled = refl;
   over0 = over 0 2 tt tt refl refl refl;
   over1 = over 1 2 tt tt refl refl refl;
   over2 = over 2 3 tt tt refl refl refl;
