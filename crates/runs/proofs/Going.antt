@@ -5,16 +5,14 @@ use native.Mathlib.Nat.{add-zero, add-suc}
 use Rattle.grammar.specs.declared.Call.{Call}
 use Rattle.definitions.specs.Generator.{stepped}
 use Rattle.generator.specs.declared.Generator.{Generator}
-use Rattle.tables.specs.declared.Answered.{Answered}
 use Rattle.tables.specs.Tables.{Tables}
 use Rattle.tables.specs.Invariant.{Valid}
-use Rattle.tables.specs.Promise.{Meets}
 use Rattle.runs.specs.declared.Progress.{Progress}
+use Rattle.runs.specs.declared.Taken.{Taken}
 use Rattle.grammar.specs.Calls.{eventOf}
 use Rattle.runs.specs.Calls.{callOf}
-use Rattle.runs.specs.Check.{checkWith}
 use Rattle.runs.specs.LongRun.{LongRun, nthDraw, callFrom, next, further, after}
-use Rattle.runs.specs.Stands.{runOf, Begins, Goes}
+use Rattle.runs.specs.Stands.{runOf, Begins, Takes, Goes}
 
 further-add : (run : LongRun) (m n : ℕ) → further (m + n) run ≡ further n (further m run)
 unfolding further
@@ -35,19 +33,18 @@ goes-on {p = p} {t = t} {m = m} {n = n} g h = record {
   valid = h .valid;
 }
 
--- one call: the four draws, the call that they make, what it promises, and the check of its answer
-pub goes-once : (p : Progress) (t : Tables) {a b c d : Generator} {call : Call} {r : Answered} {u : Tables} {h : ℕ}
+-- one call: the four draws, the call that they make, and that it is taken
+pub goes-once : (p : Progress) (t : Tables) {a b c d : Generator} {call : Call} {r : Taken} {u : Tables}
     → a .value ≡ stepped (p .maker .value)
     → b .value ≡ stepped (a .value)
     → c .value ≡ stepped (b .value)
     → d .value ≡ stepped (c .value)
     → call ≡ callOf (a .value) (b .value) (c .value) (d .value)
-    → Meets (eventOf call) (p .control) t r u
-    → h ≡ checkWith (p .check) (r .answer)
-    → Goes 1 p t (record { control = r .control; maker = d; check = h }) u
+    → Takes call d p t r u
+    → Goes 1 p t (r .progress) u
 unfolding further next callFrom nthDraw
-goes-once p t ea eb ec ed made m e =
-    record { run = cc (m .core, m .answer, made, e); valid = m .valid }
+goes-once p t ea eb ec ed made k =
+    record { run = cc (k .meets .core, k .meets .answer, k .maker, k .check); valid = k .meets .valid }
 
 -- the check after so many calls from a seed
 pub check-after : {seed : ℕ} {p q : Progress} {t u : Tables} {n : ℕ} → Begins seed p → Goes n p t q u → q .check ≡ after seed n .check

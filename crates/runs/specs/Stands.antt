@@ -1,10 +1,16 @@
 -- What the code's progress and tables stand for, and what its functions promise of it.
 use Prim.Native.Nat.{ℕ}
 use mathlib.Core.Path.{_≡_}
+use Rattle.grammar.specs.declared.Call.{Call}
+use Rattle.generator.specs.declared.Generator.{Generator}
+use Rattle.grammar.specs.Calls.{eventOf}
 use Rattle.tables.specs.Tables.{Tables}
 use Rattle.tables.specs.Meaning.{coreOf}
 use Rattle.tables.specs.Invariant.{Valid}
+use Rattle.tables.specs.Promise.{Meets}
 use Rattle.runs.specs.declared.Progress.{Progress}
+use Rattle.runs.specs.declared.Taken.{Taken}
+use Rattle.runs.specs.Check.{checkWith}
 use Rattle.runs.specs.LongRun.{LongRun, begun, further}
 
 abbrev pub runOf : Progress → Tables → LongRun
@@ -14,6 +20,12 @@ runOf p t = record { core = coreOf (p .control) t; value = p .maker .value; chec
 pub record Begins (seed : ℕ) (p : Progress) : Type 0 where
   pub run : (t : Tables) → runOf p t ≡ begun seed
   pub valid : (t : Tables) → Valid (p .control) t
+
+-- a call on progress p and tables t, whose draws left a maker, gives r and leaves u
+pub record Takes (call : Call) (drawn : Generator) (p : Progress) (t : Tables) (r : Taken) (u : Tables) : Type 0 where
+  pub meets : Meets (eventOf call) (p .control) t (record { control = r .progress .control; answer = r .answer }) u
+  pub maker : r .progress .maker ≡ drawn
+  pub check : r .progress .check ≡ checkWith (p .check) (r .answer)
 
 -- so many calls on progress p and tables t leave q and u
 pub record Goes (calls : ℕ) (p : Progress) (t : Tables) (q : Progress) (u : Tables) : Type 0 where

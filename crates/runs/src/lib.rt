@@ -13,15 +13,21 @@ use tables::TERMS;
 ghost use mathlib.Core.Path.{_≡_};
 ghost use Rattle.tables.specs.Tables.{tables};
 ghost use Rattle.tables.specs.Invariant.{Valid};
-ghost use Rattle.runs.specs.Calls.{idOf, burstOf, trafficAt, callOf};
+ghost use Rattle.runs.specs.Calls.{idOf, burstOf, packetOf, trafficAt, callOf};
 ghost use Rattle.runs.specs.Check.{mix, checkWith};
-ghost use Rattle.runs.specs.Stands.{Begins, Goes};
+ghost use Rattle.runs.specs.Stands.{Begins, Takes, Goes};
 
 // How far a long run has come, beside its tables: the core's control, the maker of calls, and the check.
 pub struct Progress {
     pub control: Control,
     pub maker: Generator,
     pub check: u32,
+}
+
+// What a call gives: how far the run has come with it, and its answer.
+pub struct Taken {
+    pub progress: Progress,
+    pub answer: Answer,
 }
 
 fn id_of(b: u32) -> u32
@@ -41,6 +47,15 @@ fn burst_of(kind: u32, d: u32) -> u32
     }
 }
 
+pub fn packet_of(c: u32, d: u32) -> Packet
+    ensures { λ r. ⌜ r ≡ packetOf c d ⌝ }
+{
+    Packet {
+        handle: d,
+        length: 63 + c % 1457,
+    }
+}
+
 // A load, an arrival or a tick.
 fn traffic_of(k: u32, id: u32, c: u32, d: u32) -> Call
     ensures { λ r. ⌜ r ≡ trafficAt k id c d ⌝ }
@@ -52,17 +67,14 @@ fn traffic_of(k: u32, id: u32, c: u32, d: u32) -> Call
         };
     }
     if k <= 3395 {
-        let packet = Packet {
-            handle: d,
-            length: 63 + c % 1457,
-        };
+        let packet = packet_of(c, d);
         return Call::Arrive { id, packet };
     }
     Call::Tick
 }
 
 // The call that four draws make.
-fn call_of(a: u32, b: u32, c: u32, d: u32) -> Call
+pub fn call_of(a: u32, b: u32, c: u32, d: u32) -> Call
     ensures { λ r. ⌜ r ≡ callOf a b c d ⌝ }
 {
     let k = a % 4096;
@@ -148,6 +160,44 @@ pub fn begin(seed: u32) -> Progress
     }
 }
 
+// Carries a call out, and mixes its answer into the check. The maker is as the call's draws have left it.
+pub fn take(
+    progress: Progress,
+    terms: &mut [u32; TERMS],
+    stocks: &mut [u32; STOCKS],
+    handles: &mut [u32; STORE],
+    lengths: &mut [u32; STORE],
+    links: &mut [u32; LINKS],
+    maker: Generator,
+    call: Call,
+) -> Taken
+    requires { ⌜ Valid (progress .control) (tables (now terms) (now stocks) (now handles) (now lengths) (now links)) ⌝ }
+    ensures { λ r. ⌜ Takes call maker progress
+        (tables (now (terms .entry)) (now (stocks .entry)) (now (handles .entry)) (now (lengths .entry)) (now (links .entry))) r
+        (tables (now (terms .exit)) (now (stocks .exit)) (now (handles .exit)) (now (lengths .exit)) (now (links .exit))) ⌝ }
+{
+    let answered = script::perform(
+        progress.control,
+        terms,
+        stocks,
+        handles,
+        lengths,
+        links,
+        call,
+    );
+    let control = answered.control;
+    let answer = answered.answer;
+    let next = Progress {
+        control,
+        maker,
+        check: check(progress.check, answer),
+    };
+    Taken {
+        progress: next,
+        answer,
+    }
+}
+
 // Makes one call.
 fn call_once(
     progress: Progress,
@@ -168,22 +218,8 @@ fn call_once(
     let c = b.step();
     let d = c.step();
     let call = call_of(a.value, b.value, c.value, d.value);
-    let answered = script::perform(
-        progress.control,
-        terms,
-        stocks,
-        handles,
-        lengths,
-        links,
-        call,
-    );
-    let control = answered.control;
-    let answer = answered.answer;
-    Progress {
-        control,
-        maker: d,
-        check: check(progress.check, answer),
-    }
+    let taken = take(progress, terms, stocks, handles, lengths, links, d, call);
+    taken.progress
 }
 
 // Makes so many calls.

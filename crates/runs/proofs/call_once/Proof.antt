@@ -1,4 +1,4 @@
--- `runs::call_once` meets its contract: four draws make the call, which keeps its promise. Assumes nothing.
+-- `runs::call_once` meets its contract: four draws make the call, and it is taken. Assumes nothing.
 use borrow.Author.Needs.{needs}
 use Rattle.runs.proofs.Going.{goes-once}
 use Rattle.runs.proofs.call_once.Statement.{statement}
@@ -19,18 +19,15 @@ step-requires-4 c κs = search needs
 call-of-requires : tie.Need-call-of-requires
 call-of-requires c κs = search needs
 
-perform-requires : tie.Need-perform-requires
-perform-requires c κs = search needs
-
-check-requires : tie.Need-check-requires
-check-requires c κs = search needs
+take-requires : tie.Need-take-requires
+take-requires c κs = search needs
 
 returns : tie.Need-returns
 returns c =
-    let made = c .before .before .before .before .before .before .before .before in
+    let made = c .before .before .before .before .before .before .before in
     let drawn = made .before in
     goes-once _ _ (drawn .before .before .before .step .ensures) (drawn .before .before .step2 .ensures) (drawn .before .step3 .ensures)
-    (drawn .step4 .ensures) (made .call-of .ensures) (c .before .before .perform .ensures .meets) (c .check .ensures)
+    (drawn .step4 .ensures) (made .call-of .ensures) (c .before .take .ensures)
 
 pub call-once-spec : {M : Type 1} → statement M
 call-once-spec =
@@ -41,6 +38,5 @@ call-once-spec =
     step-requires-3
     step-requires-4
     call-of-requires
-    perform-requires
-    check-requires
+    take-requires
     returns)
