@@ -37,7 +37,8 @@ goes-on {p = p} {t = t} {m = m} {n = n} g h = record {
 }
 
 -- one call: the four draws, the call that the phase makes of them, that it is taken, and the counts after it
-pub goes-once : (p : GreedyProgress) (t : Tables) {a b c d : Generator} {call : Call} {r : Taken} {u : Tables} {level : ℕ} {k : Counts}
+pub goes-once : (p : GreedyProgress) (t : Tables)
+    {a b c d : Generator} {call : Call} {r : Taken} {u : Tables} {level : ℕ} {k : Counts}
     → a .value ≡ stepped (p .progress .maker .value)
     → b .value ≡ stepped (a .value)
     → c .value ≡ stepped (b .value)

@@ -1,5 +1,5 @@
--- A long run with a greedy client (docs/LONG_RUNS.md): "The maker of calls and the check are as ever, and so is that each call takes
--- four draws, a, b, c and d. Beside them the run keeps a phase", and counts.
+-- A long run with a greedy client (docs/LONG_RUNS.md): "The maker of calls and the check are as ever, and so is that each call
+-- takes four draws, a, b, c and d. Beside them the run keeps a phase", and counts.
 use Prim.Native.Nat.{ℕ, zero, suc}
 use Rattle.definitions.specs.State.{Core, unopened, running}
 use Rattle.definitions.specs.Checks.{Result}

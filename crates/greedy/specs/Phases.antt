@@ -1,7 +1,7 @@
--- The phases of a run with a greedy client (docs/LONG_RUNS.md, "With a greedy client"): "The phase says which call comes next", and
--- what comes then. "All are numbers of 32 bits, 0 at first".
+-- The phases of a run with a greedy client (docs/LONG_RUNS.md, "With a greedy client"): "The phase says which call comes next",
+-- and how the counts stand then. "All are numbers of 32 bits".
 use Prim.Native.Nat.{ℕ, _+_, _*_, _/_, _%_, _^_}
-use mathlib.Core.Bool.{Bool, cond, _||_}
+use mathlib.Core.Bool.{cond, _||_}
 use lib.Dec.{eqb}
 use Rattle.definitions.specs.declared.Answer.{Answer}
 use Rattle.definitions.specs.declared.Answer.the-variants.{Accepted, Refused, Slot}
@@ -49,7 +49,7 @@ unfoldable pub risen : ℕ → ℕ
 risen n = (n + 1) % 2 ^ 32
 
 -- "rate 1 + c mod 1024"
-abbrev pub rateFrom : ℕ → ℕ
+unfoldable pub rateFrom : ℕ → ℕ
 rateFrom c = 1 + c % shares
 
 -- the column "call" of the table
@@ -156,7 +156,8 @@ ticked k d = record {
   exact = k .exact;
 }
 
--- the column "then" of the table: of a call the answer, the draws c and d, and the level that it left client 9
+-- the column "then" of the table, by the call's answer, its draws c and d, and the level that it left client 9; behind 0 as
+-- behind 5 to 8 it is "the next phase"
 unfoldable pub turned : Counts → Answer → ℕ → ℕ → ℕ → Counts
 turned k answer c d level =
     cond (eqb (k .phase) joining) (joined k c)

@@ -1,5 +1,5 @@
-// Makes long runs in which one client offers packets until it is refused, and prints how many of its offerings gave it exactly what it
-// bought. The first argument is the seed, the second how many blocks.
+// Makes long runs in which one client offers packets until it is refused, and prints how many of its offerings gave it exactly
+// what it bought. The first argument is the seed, the second how many blocks.
 use definitions::Answer;
 use definitions::INDIFFERENT;
 use definitions::SHARES;
@@ -22,14 +22,15 @@ ghost use Rattle.tables.specs.Tables.{tables};
 ghost use Rattle.tables.specs.Meaning.{coreOf};
 ghost use Rattle.tables.specs.Invariant.{Valid};
 ghost use Rattle.runs.specs.LongRun.{block};
-ghost use Rattle.greedy.specs.Phases.{risen, bought, callIn, refusedThen, ended, drained, offered, joined, paused, ticked, turned};
+ghost use Rattle.greedy.specs.Phases.{risen, rateFrom, callIn, bought, ended};
+ghost use Rattle.greedy.specs.Phases.{refusedThen, drained, offered, joined, paused, ticked, turned};
 ghost use Rattle.greedy.specs.GreedyRun.{levelIn};
 ghost use Rattle.greedy.specs.Stands.{Begins, Goes, Tells};
 
 // The client that offers.
 const GREEDY: u32 = 9;
 
-// The phases; those between OTHERS and TICKING are of other clients' calls, too.
+// The phases. From OTHERS up to TICKING they are of other clients' calls.
 const OPENING: u32 = 0;
 
 const JOINING: u32 = 1;
@@ -52,8 +53,8 @@ const NO_TOKEN: u32 = 15;
 // The program's name, the seed and the number of blocks.
 const ARGUMENTS: usize = 3;
 
-// What a run keeps beside its maker of calls and its check: the phase; of the stretch its rate, its level at the start, its ticks and
-// the packets accepted; and the offerings that ended, and those that were exact.
+// What a run keeps beside its maker of calls and its check: the phase; of the stretch its rate, its level at the start, its
+// ticks and the packets accepted; and the offerings that ended, and those that were exact.
 pub struct Counts {
     pub phase: u32,
     pub rate: u32,
@@ -77,6 +78,12 @@ fn rise(n: u32) -> u32
     std::num::wrapping_add_u32(n, 1)
 }
 
+fn rate_from(c: u32) -> u32
+    ensures { λ r. ⌜ r ≡ rateFrom c ⌝ }
+{
+    1 + c % SHARES
+}
+
 // The call of a phase, from four draws.
 fn call_in(phase: u32, a: u32, b: u32, c: u32, d: u32) -> Call
     ensures { λ r. ⌜ r ≡ callIn phase a b c d ⌝ }
@@ -91,7 +98,7 @@ fn call_in(phase: u32, a: u32, b: u32, c: u32, d: u32) -> Call
         JOINING => Call::Join {
             id: GREEDY,
             kind: INDIFFERENT,
-            rate: 1 + c % SHARES,
+            rate: rate_from(c),
             burst: 2 + d % 63,
         },
         DRAINING => Call::Arrive { id: GREEDY, packet },
@@ -123,7 +130,7 @@ fn end(counts: Counts) -> Counts
     next
 }
 
-// After an arrival that was refused with a number: where no token was left, that is told.
+// After an arrival that was refused: what no token left for it leads to is given.
 fn refuse(counts: Counts, number: u32, spent: Counts) -> Counts
     ensures { λ r. ⌜ r ≡ refusedThen counts number spent ⌝ }
 {
@@ -171,7 +178,7 @@ fn join(counts: Counts, c: u32) -> Counts
 {
     let mut next = counts;
     next.phase = DRAINING;
-    next.rate = 1 + c % SHARES;
+    next.rate = rate_from(c);
     next
 }
 
@@ -199,7 +206,8 @@ fn tick(counts: Counts, d: u32) -> Counts
     next
 }
 
-// The counts after the call of their phase: its answer, two of its draws, and the level that it left the client.
+// The counts after the call of their phase, by its answer, two of its draws, and the level that it left the client. After an
+// open, and after another client's call, only the phase goes on.
 fn turn(counts: Counts, answer: Answer, c: u32, d: u32, level: u32) -> Counts
     ensures { λ r. ⌜ r ≡ turned counts answer c d level ⌝ }
 {
@@ -302,8 +310,8 @@ fn calls(
     at
 }
 
-// Prints the line of the last of so many blocks, and gives whether it could be written whole. The seed stands here for the contract: what
-// is printed is of its run.
+// Prints the line of the last of so many blocks, and gives whether it could be written whole. The seed stands here for the
+// contract: what is printed is of its run.
 fn tell(seed: u32, blocks: u32, check: u32, offerings: u32, exact: u32) -> bool
     requires { ⌜ Tells seed (blocks * block) check offerings exact ⌝ }
 {

@@ -9,7 +9,6 @@ use Rattle.tables.specs.Tables.{Tables}
 use Rattle.tables.specs.Invariant.{Valid}
 use Rattle.runs.specs.declared.Progress.{Progress}
 use Rattle.runs.specs.declared.Taken.{Taken}
-use Rattle.grammar.specs.Calls.{eventOf}
 use Rattle.runs.specs.Calls.{callOf}
 use Rattle.runs.specs.LongRun.{LongRun, nthDraw, callFrom, next, further, after}
 use Rattle.runs.specs.Stands.{runOf, Begins, Takes, Goes}
@@ -47,6 +46,7 @@ goes-once p t ea eb ec ed made k =
     record { run = cc (k .meets .core, k .meets .answer, k .maker, k .check); valid = k .meets .valid }
 
 -- the check after so many calls from a seed
-pub check-after : {seed : ℕ} {p q : Progress} {t u : Tables} {n : ℕ} → Begins seed p → Goes n p t q u → q .check ≡ after seed n .check
+pub check-after : {seed : ℕ} {p q : Progress} {t u : Tables} {n : ℕ} → Begins seed p → Goes n p t q u
+    → q .check ≡ after seed n .check
 unfolding after
 check-after {t = t} {n = n} b g = ap (λ (x : LongRun). x .check) (g .run ∙ ap (further n) (b .run t))

@@ -25,8 +25,8 @@ pub fn print_check(blocks: u32, check: u32) -> bool {
         && io::print_decimal(STDOUT_FILENO, tables::wide(check))
 }
 
-// Prints the line of the last of so many blocks, and gives whether it could be written whole; if not, that is told on standard error, in
-// the program's words.
+// Prints the line of the last of so many blocks, and gives whether it could be written whole; if not, that is told on standard
+// error, in the program's words.
 pub fn print_line(blocks: u32, check: u32, failed: &[u8]) -> bool {
     if print_check(blocks, check) && io::write_all(STDOUT_FILENO, b")\n") {
         return true;

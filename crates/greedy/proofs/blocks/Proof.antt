@@ -12,7 +12,8 @@ use Rattle.greedy.proofs.blocks.Tie as tie
 
 abbrev Inv-loop : tie.InvT-loop
 Inv-loop seed count terms₀ stocks₀ handles₀ lengths₀ links₀ at₀ done₀ terms stocks handles lengths links at done =
-    (done ≤ count) × Goes (done * block) at₀ (tables terms₀ stocks₀ handles₀ lengths₀ links₀) at (tables terms stocks handles lengths links)
+    (done ≤ count)
+    × Goes (done * block) at₀ (tables terms₀ stocks₀ handles₀ lengths₀ links₀) at (tables terms stocks handles lengths links)
 
 abbrev μ-loop : tie.MeasureT-loop
 μ-loop seed count terms₀ stocks₀ handles₀ lengths₀ links₀ at₀ done₀ terms stocks handles lengths links at done = count - done
@@ -32,7 +33,8 @@ add-done c = search needs
 tell-requires : tie.Need-tell-requires Inv-loop μ-loop
 tell-requires c κs =
     let at = c .before .before .before .before .before .before .before in
-    tells-after (at .before .begin .ensures) (goes-as (omega arith) (goes-on (at .loop .inv .1) (c .calls .ensures)))
+    tells-after {q = c .calls .result} (at .before .begin .ensures)
+    (goes-as (omega arith) (goes-on (at .loop .inv .1) (c .calls .ensures)))
 
 returns : tie.Need-returns Inv-loop μ-loop
 returns c = search needs

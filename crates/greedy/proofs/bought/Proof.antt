@@ -20,7 +20,7 @@ wide-requires-3 : tie.Need-wide-requires-3
 wide-requires-3 c κs = search needs
 
 add-result : tie.Need-add-result
-add-result c = omega (arith, product-high (c .before .before .wide .ensures .1) (c .before .wide2 .ensures .1), c .wide3 .ensures .1)
+add-result c = omega (arith, product-high (c .before .before .wide .ensures .1) (c .before .wide2 .ensures .1))
 
 cast-result : tie.Need-cast-result
 cast-result c = search needs

@@ -13,11 +13,11 @@ use Rattle.greedy.proofs.call_in.Tie as tie
 packet-of-requires : tie.Need-packet-of-requires
 packet-of-requires c κs = search needs
 
-add-t10 : tie.Need-add-t10
-add-t10 c = search needs
+rate-from-requires : tie.Need-rate-from-requires
+rate-from-requires c κs = search needs
 
-add-t12 : tie.Need-add-t12
-add-t12 c = search needs
+add-t11 : tie.Need-add-t11
+add-t11 c = search needs
 
 add-call-of : tie.Need-add-call-of
 add-call-of c = search needs
@@ -30,8 +30,8 @@ unfolding callIn shares
 returns c = rw (c .match .keys1)
 
 returns-2 : tie.Need-returns-2
-unfolding callIn shares indifferentKind
-returns-2 c = rw (c .match .keys2)
+unfolding callIn indifferentKind
+returns-2 c = rw (c .rate-from .ensures, c .before .match .keys2)
 
 returns-3 : tie.Need-returns-3
 unfolding callIn
@@ -71,8 +71,8 @@ call-in-spec =
     tie.close
     (tie.spec
     packet-of-requires
-    add-t10
-    add-t12
+    rate-from-requires
+    add-t11
     add-call-of
     call-of-requires
     returns

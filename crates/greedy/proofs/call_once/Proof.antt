@@ -34,8 +34,9 @@ returns c =
     let taken = c .before .before .before .before in
     let made = taken .before .before .before .before .before .before in
     let drawn = made .before in
-    goes-once _ _ (drawn .before .before .before .step .ensures) (drawn .before .before .step2 .ensures) (drawn .before .step3 .ensures)
-    (drawn .step4 .ensures) (made .call-in .ensures) (taken .take .ensures) (c .before .level-of .ensures _ _ _ _) (c .turn .ensures)
+    goes-once _ _ (drawn .before .before .before .step .ensures) (drawn .before .before .step2 .ensures)
+    (drawn .before .step3 .ensures) (drawn .step4 .ensures) (made .call-in .ensures) (taken .take .ensures)
+    (c .before .level-of .ensures _ _ _ _) (c .turn .ensures)
 
 pub call-once-spec : {M : Type 1} → statement M
 call-once-spec =

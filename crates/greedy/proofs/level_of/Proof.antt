@@ -26,7 +26,8 @@ element-copy-out-result c = search needs
 
 returns-2 : tie.Need-returns-2
 unfolding levelIn coreOf stateOf clientsOf clientAt field ids
-returns-2 c stocks handles lengths links = rw (not-false (c .before .before .before .args .control .opened) (c .before .if1 .left))
+returns-2 c stocks handles lengths links =
+    rw (not-false (c .before .before .before .args .control .opened) (c .before .if1 .left))
 
 pub level-of-spec : {M : Type 1} → statement M
 level-of-spec =

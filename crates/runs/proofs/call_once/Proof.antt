@@ -26,8 +26,8 @@ returns : tie.Need-returns
 returns c =
     let made = c .before .before .before .before .before .before .before in
     let drawn = made .before in
-    goes-once _ _ (drawn .before .before .before .step .ensures) (drawn .before .before .step2 .ensures) (drawn .before .step3 .ensures)
-    (drawn .step4 .ensures) (made .call-of .ensures) (c .before .take .ensures)
+    goes-once _ _ (drawn .before .before .before .step .ensures) (drawn .before .before .step2 .ensures)
+    (drawn .before .step3 .ensures) (drawn .step4 .ensures) (made .call-of .ensures) (c .before .take .ensures)
 
 pub call-once-spec : {M : Type 1} → statement M
 call-once-spec =
