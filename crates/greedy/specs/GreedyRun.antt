@@ -1,11 +1,12 @@
 -- A long run with a greedy client (docs/LONG_RUNS.md): "The maker of calls and the check are as ever, and so is that each call
 -- takes four draws, a, b, c and d. Beside them the run keeps a phase", and counts.
-use Prim.Native.Nat.{ℕ, zero, suc}
+use Prim.Native.Nat.{ℕ}
 use Rattle.definitions.specs.State.{Core, unopened, running}
 use Rattle.definitions.specs.Checks.{Result}
 use Rattle.definitions.specs.Core.{step}
 use Rattle.grammar.specs.declared.Call.{Call}
 use Rattle.grammar.specs.Calls.{eventOf}
+use Rattle.runs.specs.Advance.{repeated}
 use Rattle.runs.specs.LongRun.{LongRun, nthDraw, taken}
 use Rattle.runs.specs.LongRun
 use Rattle.greedy.specs.declared.Counts.{Counts}
@@ -43,9 +44,5 @@ takenBy g result = record {
 unfoldable pub next : GreedyRun → GreedyRun
 next g = takenBy g (step (g .run .core) (eventOf (callFrom (g .counts .phase) (g .run .value))))
 
-unfoldable pub further : ℕ → GreedyRun → GreedyRun
-further zero g = g
-further (suc n) g = next (further n g)
-
 unfoldable pub after : ℕ → ℕ → GreedyRun
-after seed calls = further calls (begun seed)
+after seed calls = repeated next calls (begun seed)

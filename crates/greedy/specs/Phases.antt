@@ -1,11 +1,12 @@
 -- The phases of a run with a greedy client (docs/LONG_RUNS.md, "With a greedy client"): "The phase says which call comes next",
 -- and how the counts stand then. "All are numbers of 32 bits".
-use Prim.Native.Nat.{ℕ, _+_, _*_, _/_, _%_, _^_}
+use Prim.Native.Nat.{ℕ, _+_, _%_, _^_}
 use mathlib.Core.Bool.{cond, _||_}
 use lib.Dec.{eqb}
 use Rattle.definitions.specs.declared.Answer.{Answer}
 use Rattle.definitions.specs.declared.Answer.the-variants.{Accepted, Refused, Slot}
 use Rattle.definitions.specs.Sizes.{shares, indifferentKind}
+use Rattle.definitions.specs.Stretch.{tokens}
 use Rattle.grammar.specs.declared.Call.{Call}
 use Rattle.grammar.specs.declared.Call.the-variants.{Open, Join, Arrive, Tick}
 use Rattle.runs.specs.Calls.{packetOf, callAt}
@@ -112,7 +113,7 @@ paused k d level = cond (eqb (d % 16) 0) (started k level) k
 
 -- "(L + n · R) / 1024": what was bought up to here
 unfoldable pub bought : Counts → ℕ
-bought k = (k .level + k .ticks * k .rate) / shares
+bought k = tokens (k .level) (k .rate) (k .ticks)
 
 -- "the offering ends: F + 1; E + 1 if g = (L + n · R) / 1024; phase 5"
 unfoldable pub ended : Counts → Counts

@@ -14,7 +14,8 @@ use Rattle.definitions.specs.Core.{step}
 use Rattle.definitions.proofs.Laws.Checked.{checked-anyway, checked-accepted}
 use Rattle.grammar.specs.Calls.{eventOf}
 use Rattle.runs.specs.Calls.{callAt, callOf}
-use Rattle.runs.specs.LongRun.{begun, nthDraw, callFrom, taken, next, further, after, block}
+use Rattle.runs.specs.LongRun.{begun, nthDraw, callFrom, taken, next, after, block}
+use Rattle.runs.specs.Advance.{repeated}
 use Rattle.remains.specs.Started.{behind, started, OpensFirst, EarlierUnseen}
 
 module _ (seed : ℕ) (first : OpensFirst seed) where
@@ -40,7 +41,7 @@ module _ (seed : ℕ) (first : OpensFirst seed) where
       go false = next-behind earlier
 
 pub earlier-unseen : EarlierUnseen
-unfolding after further
+unfolding after repeated
 earlier-unseen earlier seed zero first = next-started seed first earlier
 earlier-unseen earlier seed (suc calls) first = ap next (earlier-unseen earlier seed calls first)
 

@@ -5,32 +5,45 @@ use native.Mathlib.Nat.{add-zero, add-suc}
 use Rattle.grammar.specs.declared.Call.{Call}
 use Rattle.definitions.specs.Generator.{stepped}
 use Rattle.generator.specs.declared.Generator.{Generator}
+use Rattle.tables.specs.declared.Control.{Control}
 use Rattle.tables.specs.Tables.{Tables}
 use Rattle.tables.specs.Invariant.{Valid}
 use Rattle.runs.specs.declared.Progress.{Progress}
 use Rattle.runs.specs.declared.Taken.{Taken}
 use Rattle.runs.specs.Calls.{callOf}
-use Rattle.runs.specs.LongRun.{LongRun, nthDraw, callFrom, next, further, after}
+use Rattle.runs.specs.LongRun.{LongRun, nthDraw, callFrom, next, after}
+use Rattle.runs.specs.Advance.{repeated, BeginsAs, Advances}
 use Rattle.runs.specs.Stands.{runOf, Begins, Takes, Goes}
 
-further-add : (run : LongRun) (m n : ℕ) → further (m + n) run ≡ further n (further m run)
-unfolding further
-further-add run m zero = ap (λ (k : ℕ). further k run) (add-zero m)
-further-add run m (suc n) = ap (λ (k : ℕ). further k run) (add-suc m n) ∙ ap next (further-add run m n)
+repeated-add : {R : Type 0} (next : R → R) (run : R) (m n : ℕ) → repeated next (m + n) run ≡ repeated next n (repeated next m run)
+unfolding repeated
+repeated-add next run m zero = ap (λ (k : ℕ). repeated next k run) (add-zero m)
+repeated-add next run m (suc n) = ap (λ (k : ℕ). repeated next k run) (add-suc m n) ∙ ap next (repeated-add next run m n)
 
-pub goes-none : (p : Progress) (t : Tables) → Valid (p .control) t → Goes 0 p t p t
-unfolding further
-goes-none p t v = record { run = refl; valid = v }
+-- of a run of any kind
+module _ {P R : Type 0} {control : P → Control} {meaning : P → Tables → R} {next : R → R} where
+  pub goes-none : (p : P) (t : Tables) → Valid (control p) t → Advances control meaning next 0 p t p t
+  unfolding repeated
+  goes-none p t v = record { run = refl; valid = v }
 
-pub goes-as : {p q : Progress} {t u : Tables} {m n : ℕ} → m ≡ n → Goes m p t q u → Goes n p t q u
-goes-as {p = p} {q = q} {t = t} {u = u} e g = subst (λ (k : ℕ). Goes k p t q u) e g
+  pub goes-as : {p q : P} {t u : Tables} {m n : ℕ} → m ≡ n → Advances control meaning next m p t q u
+      → Advances control meaning next n p t q u
+  goes-as {p = p} {q = q} {t = t} {u = u} e g = subst (λ (k : ℕ). Advances control meaning next k p t q u) e g
 
--- some calls after some
-pub goes-on : {p q r : Progress} {t u w : Tables} {m n : ℕ} → Goes m p t q u → Goes n q u r w → Goes (m + n) p t r w
-goes-on {p = p} {t = t} {m = m} {n = n} g h = record {
-  run = h .run ∙ ap (further n) (g .run) ∙ sym (further-add (runOf p t) m n);
-  valid = h .valid;
-}
+  -- some calls after some
+  pub goes-on : {p q r : P} {t u w : Tables} {m n : ℕ} → Advances control meaning next m p t q u
+      → Advances control meaning next n q u r w
+      → Advances control meaning next (m + n) p t r w
+  goes-on {p = p} {t = t} {m = m} {n = n} g h = record {
+    run = h .run ∙ ap (repeated next n) (g .run) ∙ sym (repeated-add next (meaning p t) m n);
+    valid = h .valid;
+  }
+
+  -- what so many calls from the beginning of a run leave
+  pub goes-from : {first : R} {p q : P} {t u : Tables} {n : ℕ} → BeginsAs control meaning first p
+      → Advances control meaning next n p t q u
+      → meaning q u ≡ repeated next n first
+  goes-from {t = t} {n = n} b g = g .run ∙ ap (repeated next n) (b .run t)
 
 -- one call: the four draws, the call that they make, and that it is taken
 pub goes-once : (p : Progress) (t : Tables) {a b c d : Generator} {call : Call} {r : Taken} {u : Tables}
@@ -41,12 +54,12 @@ pub goes-once : (p : Progress) (t : Tables) {a b c d : Generator} {call : Call} 
     → call ≡ callOf (a .value) (b .value) (c .value) (d .value)
     → Takes call d p t r u
     → Goes 1 p t (r .progress) u
-unfolding further next callFrom nthDraw
+unfolding repeated next callFrom nthDraw
 goes-once p t ea eb ec ed made k =
     record { run = cc (k .meets .core, k .meets .answer, k .maker, k .check); valid = k .meets .valid }
 
 -- the check after so many calls from a seed
-pub check-after : {seed : ℕ} {p q : Progress} {t u : Tables} {n : ℕ} → Begins seed p → Goes n p t q u
+pub check-after : (seed : ℕ) {p q : Progress} {t u : Tables} {n : ℕ} → Begins seed p → Goes n p t q u
     → q .check ≡ after seed n .check
 unfolding after
-check-after {t = t} {n = n} b g = ap (λ (x : LongRun). x .check) (g .run ∙ ap (further n) (b .run t))
+check-after seed b g = ap (λ (x : LongRun). x .check) (goes-from b g)

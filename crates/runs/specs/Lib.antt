@@ -2,5 +2,6 @@
 -- code keeps of it.
 pub mod Calls
 pub mod Check
+pub mod Advance
 pub mod LongRun
 pub mod Stands

@@ -8,6 +8,7 @@ use Rattle.definitions.specs.Core.{step}
 use Rattle.grammar.specs.Calls.{eventOf}
 use Rattle.runs.specs.Calls.{callOf}
 use Rattle.runs.specs.Check.{checkWith}
+use Rattle.runs.specs.Advance.{repeated}
 
 -- what a long run has between two calls: the core, the value of the maker of calls, and the check
 pub record LongRun : Type 0 where
@@ -39,9 +40,8 @@ taken run result = record {
 unfoldable pub next : LongRun → LongRun
 next run = taken run (step (run .core) (eventOf (callFrom (run .value))))
 
-unfoldable pub further : ℕ → LongRun → LongRun
-further zero run = run
-further (suc n) run = next (further n run)
+abbrev pub further : ℕ → LongRun → LongRun
+further = repeated next
 
 unfoldable pub after : ℕ → ℕ → LongRun
 after seed calls = further calls (begun seed)

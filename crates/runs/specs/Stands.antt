@@ -6,20 +6,19 @@ use Rattle.generator.specs.declared.Generator.{Generator}
 use Rattle.grammar.specs.Calls.{eventOf}
 use Rattle.tables.specs.Tables.{Tables}
 use Rattle.tables.specs.Meaning.{coreOf}
-use Rattle.tables.specs.Invariant.{Valid}
 use Rattle.tables.specs.Promise.{Meets}
 use Rattle.runs.specs.declared.Progress.{Progress}
 use Rattle.runs.specs.declared.Taken.{Taken}
 use Rattle.runs.specs.Check.{checkWith}
-use Rattle.runs.specs.LongRun.{LongRun, begun, further}
+use Rattle.runs.specs.LongRun.{LongRun, begun, next}
+use Rattle.runs.specs.Advance.{BeginsAs, Advances}
 
 abbrev pub runOf : Progress → Tables → LongRun
 runOf p t = record { core = coreOf (p .control) t; value = p .maker .value; check = p .check }
 
--- before the first call from a seed, whatever the tables hold
-pub record Begins (seed : ℕ) (p : Progress) : Type 0 where
-  pub run : (t : Tables) → runOf p t ≡ begun seed
-  pub valid : (t : Tables) → Valid (p .control) t
+-- before the first call from a seed
+abbrev pub Begins : ℕ → Progress → Type 0
+Begins seed = BeginsAs (λ p. p .control) runOf (begun seed)
 
 -- a call on progress p and tables t, whose draws left a maker, gives r and leaves u
 pub record Takes (call : Call) (drawn : Generator) (p : Progress) (t : Tables) (r : Taken) (u : Tables) : Type 0 where
@@ -28,6 +27,5 @@ pub record Takes (call : Call) (drawn : Generator) (p : Progress) (t : Tables) (
   pub check : r .progress .check ≡ checkWith (p .check) (r .answer)
 
 -- so many calls on progress p and tables t leave q and u
-pub record Goes (calls : ℕ) (p : Progress) (t : Tables) (q : Progress) (u : Tables) : Type 0 where
-  pub run : runOf q u ≡ further calls (runOf p t)
-  pub valid : Valid (q .control) u
+abbrev pub Goes : ℕ → Progress → Tables → Progress → Tables → Type 0
+Goes = Advances (λ p. p .control) runOf next

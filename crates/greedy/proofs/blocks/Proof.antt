@@ -6,7 +6,8 @@ use borrow.Author.Needs.{needs}
 use Rattle.tables.specs.Tables.{tables}
 use Rattle.runs.specs.LongRun.{block}
 use Rattle.greedy.specs.Stands.{Goes}
-use Rattle.greedy.proofs.Offers.{goes-none, goes-as, goes-on, tells-after}
+use Rattle.runs.proofs.Going.{goes-none, goes-as, goes-on}
+use Rattle.greedy.proofs.Offers.{tells-after}
 use Rattle.greedy.proofs.blocks.Statement.{statement}
 use Rattle.greedy.proofs.blocks.Tie as tie
 

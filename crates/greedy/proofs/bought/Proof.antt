@@ -2,6 +2,7 @@
 use borrow.Author.Needs.{needs}
 use native.Mathlib.Omega.{arith}
 use Rattle.definitions.specs.Sizes.{shares}
+use Rattle.definitions.specs.Stretch.{tokens}
 use Rattle.greedy.specs.Phases.{bought}
 use Rattle.greedy.proofs.WideSums.{product-high}
 use Rattle.greedy.proofs.bought.Statement.{statement}
@@ -29,7 +30,7 @@ div-result : tie.Need-div-result
 div-result c = search needs
 
 returns : tie.Need-returns
-unfolding bought shares
+unfolding bought tokens shares
 returns c = rw (c .wide3 .ensures .0, c .before .before .wide .ensures .0, c .before .wide2 .ensures .0)
 
 pub bought-spec : {M : Type 1} → statement M

@@ -5,7 +5,7 @@ use Prim.Native.Nat.{_-_, _≤_}
 use native.Mathlib.Omega.{arith}
 use Rattle.tables.specs.Tables.{tables}
 use Rattle.greedy.specs.Stands.{Goes}
-use Rattle.greedy.proofs.Offers.{goes-none, goes-as, goes-on}
+use Rattle.runs.proofs.Going.{goes-none, goes-as, goes-on}
 use Rattle.greedy.proofs.calls.Statement.{statement}
 use Rattle.greedy.proofs.calls.Tie as tie
 

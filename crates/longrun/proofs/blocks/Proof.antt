@@ -32,7 +32,7 @@ add-done c = search needs
 tell-requires : tie.Need-tell-requires Inv-loop μ-loop
 tell-requires c κs =
     let at = c .before .before .before .before .before .before .before in
-    check-after (at .before .begin .ensures) (goes-as (omega arith) (goes-on (at .loop .inv .1) (c .calls .ensures)))
+    check-after _ (at .before .begin .ensures) (goes-as (omega arith) (goes-on (at .loop .inv .1) (c .calls .ensures)))
 
 returns : tie.Need-returns Inv-loop μ-loop
 returns c = search needs
