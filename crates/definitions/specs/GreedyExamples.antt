@@ -22,15 +22,15 @@ abbrev pub offer : Event
 offer = arrival 3 1 64
 
 -- n ticks behind some calls
-unfoldable pub idle : ℕ → History → History
-idle zero h = h
-idle (suc n) h = idle n h then Tick
+unfoldable pub ticking : ℕ → History → History
+ticking zero h = h
+ticking (suc n) h = ticking n h then Tick
 
--- a core on which client 3 is indifferent, with a full bucket, beside a private client
+-- a core on which client 3 is indifferent beside a private client. The ticks fill its bucket, wherever a join leaves it.
 unfoldable pub joined : ℕ → ℕ → Core
 joined rate burst =
     after scheduler
-    (idle 3 (start then Open 1024 firstCome 1 then Join 2 privateKind 20 0 then Join 3 indifferentKind rate burst))
+    (ticking 3 (start then Open 1024 firstCome 1 then Join 2 privateKind 20 0 then Join 3 indifferentKind rate burst))
 
 module _ (offering : History → History) where
   -- an offering before the first of n ticks, and one behind each of them
@@ -42,11 +42,12 @@ module _ (offering : History → History) where
 abbrev pub thrice : History → History
 thrice h = h then offer then offer then offer
 
--- the same among calls of others, one of them a join, and behind a packet of client 3 that gets 13
+-- The same among calls of others, one of them a join, and calls that are refused: an open (1), a join of client 3 (6) and a
+-- packet of it (13).
 abbrev pub among : History → History
 among h =
-    h then Join 7 indifferentKind 100 1 then arrival 3 5 63 then offer then arrival 2 8 64 then offer
-    then Load 2 1 then arrival 7 9 64 then offer
+    h then Join 7 indifferentKind 100 1 then Open 0 firstCome 1 then Join 3 indifferentKind 1 1 then arrival 3 5 63
+    then offer then arrival 2 8 64 then offer then Load 2 1 then arrival 7 9 64 then offer
 
 -- Client 3, with a bucket of 2048 at first and a rate of 700, is greedy over n ticks, and so many of its packets are accepted.
 pub record GreedyOver (n accepted : ℕ) : Type 0 where
@@ -94,11 +95,13 @@ sole rate burst level waiting = running (record {
   };
 })
 
--- a stretch in which one condition is not met, for each but that the client is indifferent
+-- Stretches in which a condition is not met; where 14 is met no offering ends with 15 either, so there it is two. The last meets
+-- all four, at a rate that no history reaches.
 pub record GreedyNeeded : Type 0 where
-  -- of burst 1 a bucket with less than a token has no room for a rate of 1000: every second refill spills
+  -- of burst 1 a bucket with less than a token may have no room for a rate of 1000: every second refill spills
   pub burstOne : Fewer (joined 1000 1) (offeredOver thrice 3) (false ∷ true ∷ true ∷ true ∷ [])
-  -- the client stops a packet early before the first tick, and later offerings do not make up for what that tick spills
+  -- at level 2024 the client leaves out the one packet that it could send before the first tick, and later offerings do not make
+  -- up for what that tick spills
   pub early : Fewer (behind (joined 1000 2) (start then offer then Tick)) (thrice (thrice (start then Tick) then Tick))
       (true ∷ false ∷ true ∷ true ∷ [])
   -- or it does so at the end
@@ -111,5 +114,5 @@ pub record GreedyNeeded : Type 0 where
   -- it changes to a lower rate
   pub changed : Fewer (joined 1000 2) (thrice (thrice (thrice (start then Change 3 indifferentKind 1 2) then Tick) then Tick))
       (true ∷ true ∷ true ∷ false ∷ [])
-  -- a rate above 1024, which no history reaches
+  -- a rate above 1024
   pub rate : Fewer (sole 4096 2 0 0) (offeredOver thrice 1) (true ∷ true ∷ true ∷ true ∷ [])

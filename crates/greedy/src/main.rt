@@ -270,19 +270,25 @@ fn call_once(
 {
     let progress = at.progress;
     let counts = at.counts;
-    let maker = progress.maker;
-    let a = maker.step();
-    let b = a.step();
-    let c = b.step();
-    let d = c.step();
-    let call = call_in(counts.phase, a.value, b.value, c.value, d.value);
-    let taken = runs::take(progress, terms, stocks, handles, lengths, links, d, call);
+    let draws = runs::draw(progress.maker);
+    let call = call_in(counts.phase, draws.a, draws.b, draws.c, draws.d);
+    let maker = draws.maker;
+    let taken = runs::take(
+        progress,
+        terms,
+        stocks,
+        handles,
+        lengths,
+        links,
+        maker,
+        call,
+    );
     let next = taken.progress;
     let answer = taken.answer;
     let level = level_of(next.control, terms);
     GreedyProgress {
         progress: next,
-        counts: turn(counts, answer, c.value, d.value, level),
+        counts: turn(counts, answer, draws.c, draws.d, level),
     }
 }
 

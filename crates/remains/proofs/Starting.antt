@@ -8,6 +8,7 @@ use Rattle.tables.specs.Tables.{Tables}
 use Rattle.runs.specs.declared.Progress.{Progress}
 use Rattle.runs.specs.LongRun.{LongRun, further, after, block}
 use Rattle.runs.specs.Stands.{Begins, Goes}
+use Rattle.runs.proofs.Going.{goes-from}
 use Rattle.remains.specs.Started.{behind, started, Starts}
 
 pub starts-unopened : {earlier seed : ℕ} {p : Progress} {t : Tables} → earlier ≡ 0 → Begins seed p → Starts earlier seed p t
@@ -18,9 +19,8 @@ pub starts-behind : {earlier seed : ℕ} {p q : Progress} {t u : Tables} {maker 
     → Begins earlier p → Goes block p t q u → maker .value ≡ seed
     → Starts earlier seed (record { control = q .control; maker = maker; check = 0 }) u
 unfolding started behind after
-starts-behind {earlier = earlier} {t = t} some b g e = record {
-  run = rw (ne-eqb earlier 0 some)
-      (cc (ap (λ (x : LongRun). x .core) (g .run ∙ ap (further block) (b .run t))));
+starts-behind {earlier = earlier} some b g e = record {
+  run = rw (ne-eqb earlier 0 some) (cc (ap (λ (x : LongRun). x .core) (goes-from b g)));
   valid = g .valid;
 }
 

@@ -3,17 +3,19 @@ use Prim.Native.Nat.{ℕ, zero, suc, _+_}
 use mathlib.Core.Path.{_≡_, refl, sym, ap, subst, _∙_}
 use native.Mathlib.Nat.{add-zero, add-suc}
 use Rattle.grammar.specs.declared.Call.{Call}
-use Rattle.definitions.specs.Generator.{stepped}
-use Rattle.generator.specs.declared.Generator.{Generator}
+use Rattle.definitions.specs.Core.{step}
+use Rattle.grammar.specs.Calls.{eventOf}
 use Rattle.tables.specs.declared.Control.{Control}
 use Rattle.tables.specs.Tables.{Tables}
+use Rattle.tables.specs.Meaning.{coreOf}
 use Rattle.tables.specs.Invariant.{Valid}
 use Rattle.runs.specs.declared.Progress.{Progress}
+use Rattle.runs.specs.declared.Draws.{Draws}
 use Rattle.runs.specs.declared.Taken.{Taken}
 use Rattle.runs.specs.Calls.{callOf}
-use Rattle.runs.specs.LongRun.{LongRun, nthDraw, callFrom, next, after}
+use Rattle.runs.specs.LongRun.{LongRun, taken, callFrom, next, after}
 use Rattle.runs.specs.Advance.{repeated, BeginsAs, Advances}
-use Rattle.runs.specs.Stands.{runOf, Begins, Takes, Goes}
+use Rattle.runs.specs.Stands.{runOf, Begins, Drawn, Takes, Goes}
 
 repeated-add : {R : Type 0} (next : R → R) (run : R) (m n : ℕ) → repeated next (m + n) run ≡ repeated next n (repeated next m run)
 unfolding repeated
@@ -45,18 +47,24 @@ module _ {P R : Type 0} {control : P → Control} {meaning : P → Tables → R}
       → meaning q u ≡ repeated next n first
   goes-from {t = t} {n = n} b g = g .run ∙ ap (repeated next n) (b .run t)
 
+-- what a run has behind a call that is taken
+pub takes-run : (p : Progress) (t : Tables) {w : Draws} {call : Call} {r : Taken} {u : Tables}
+    → Drawn (p .maker .value) w
+    → Takes call (w .maker) p t r u
+    → runOf (r .progress) u ≡ taken (runOf p t) (step (coreOf (p .control) t) (eventOf call))
+takes-run p t drawn k = cc (k .meets .core, k .meets .answer, k .maker, k .check, drawn .maker)
+
 -- one call: the four draws, the call that they make, and that it is taken
-pub goes-once : (p : Progress) (t : Tables) {a b c d : Generator} {call : Call} {r : Taken} {u : Tables}
-    → a .value ≡ stepped (p .maker .value)
-    → b .value ≡ stepped (a .value)
-    → c .value ≡ stepped (b .value)
-    → d .value ≡ stepped (c .value)
-    → call ≡ callOf (a .value) (b .value) (c .value) (d .value)
-    → Takes call d p t r u
+pub goes-once : (p : Progress) (t : Tables) {w : Draws} {call : Call} {r : Taken} {u : Tables}
+    → Drawn (p .maker .value) w
+    → call ≡ callOf (w .a) (w .b) (w .c) (w .d)
+    → Takes call (w .maker) p t r u
     → Goes 1 p t (r .progress) u
-unfolding repeated next callFrom nthDraw
-goes-once p t ea eb ec ed made k =
-    record { run = cc (k .meets .core, k .meets .answer, k .maker, k .check); valid = k .meets .valid }
+unfolding repeated next callFrom
+goes-once p t drawn made k = record {
+  run = cc (takes-run p t drawn k, drawn .first, drawn .second, drawn .third, drawn .fourth);
+  valid = k .meets .valid;
+}
 
 -- the check after so many calls from a seed
 pub check-after : (seed : ℕ) {p q : Progress} {t u : Tables} {n : ℕ} → Begins seed p → Goes n p t q u

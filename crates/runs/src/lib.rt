@@ -15,13 +15,22 @@ ghost use Rattle.tables.specs.Tables.{tables};
 ghost use Rattle.tables.specs.Invariant.{Valid};
 ghost use Rattle.runs.specs.Calls.{idOf, burstOf, packetOf, trafficAt, callOf};
 ghost use Rattle.runs.specs.Check.{mix, checkWith};
-ghost use Rattle.runs.specs.Stands.{Begins, Takes, Goes};
+ghost use Rattle.runs.specs.Stands.{Begins, Drawn, Takes, Goes};
 
 // How far a long run has come, beside its tables: the core's control, the maker of calls, and the check.
 pub struct Progress {
     pub control: Control,
     pub maker: Generator,
     pub check: u32,
+}
+
+// The four draws that a call takes, and the maker of calls as they leave it.
+pub struct Draws {
+    pub a: u32,
+    pub b: u32,
+    pub c: u32,
+    pub d: u32,
+    pub maker: Generator,
 }
 
 // What a call gives: how far the run has come with it, and its answer.
@@ -71,6 +80,22 @@ fn traffic_of(k: u32, id: u32, c: u32, d: u32) -> Call
         return Call::Arrive { id, packet };
     }
     Call::Tick
+}
+
+pub fn draw(maker: Generator) -> Draws
+    ensures { λ r. ⌜ Drawn (maker .value) r ⌝ }
+{
+    let a = maker.step();
+    let b = a.step();
+    let c = b.step();
+    let d = c.step();
+    Draws {
+        a: a.value,
+        b: b.value,
+        c: c.value,
+        d: d.value,
+        maker: d,
+    }
 }
 
 // The call that four draws make.
@@ -212,13 +237,19 @@ fn call_once(
         (tables (now (terms .entry)) (now (stocks .entry)) (now (handles .entry)) (now (lengths .entry)) (now (links .entry))) r
         (tables (now (terms .exit)) (now (stocks .exit)) (now (handles .exit)) (now (lengths .exit)) (now (links .exit))) ⌝ }
 {
-    let maker = progress.maker;
-    let a = maker.step();
-    let b = a.step();
-    let c = b.step();
-    let d = c.step();
-    let call = call_of(a.value, b.value, c.value, d.value);
-    let taken = take(progress, terms, stocks, handles, lengths, links, d, call);
+    let draws = draw(progress.maker);
+    let call = call_of(draws.a, draws.b, draws.c, draws.d);
+    let maker = draws.maker;
+    let taken = take(
+        progress,
+        terms,
+        stocks,
+        handles,
+        lengths,
+        links,
+        maker,
+        call,
+    );
     taken.progress
 }
 

@@ -76,23 +76,23 @@ checked-kept cs before s =
     (λ passed e. absurd (e refl))
 
 -- that of a list of checks the first that fails has the number
-abbrev pub FirstFailed : ℕ → List Check → Type 0
-FirstFailed n [] = ⊥
-FirstFailed n (c ∷ cs) = ((c .passed ≡ false) × (c .number ≡ n)) ⊎ ((c .passed ≡ true) × FirstFailed n cs)
+abbrev pub FailsFirst : ℕ → List Check → Type 0
+FailsFirst n [] = ⊥
+FailsFirst n (c ∷ cs) = ((c .passed ≡ false) × (c .number ≡ n)) ⊎ ((c .passed ≡ true) × FailsFirst n cs)
 
 -- a refusal tells which check failed
 pub checked-first : (n : ℕ) (cs : List Check) (left : ℕ → Core) (s : State)
     → 0 < n
     → number (checked cs left (accepted s) .answer) ≡ n
-    → FirstFailed n cs
+    → FailsFirst n cs
 unfolding checked number
 checked-first n [] left s positive e = omega arith
 checked-first n (c ∷ cs) left s positive e = go (c .passed) (checked-first n cs left s positive) e
   where
     go : (b : Bool)
-        → (number (checked cs left (accepted s) .answer) ≡ n → FirstFailed n cs)
+        → (number (checked cs left (accepted s) .answer) ≡ n → FailsFirst n cs)
         → number (cond b (checked cs left (accepted s)) (refused (c .number) (left (c .number))) .answer) ≡ n
-        → ((b ≡ false) × (c .number ≡ n)) ⊎ ((b ≡ true) × FirstFailed n cs)
+        → ((b ≡ false) × (c .number ≡ n)) ⊎ ((b ≡ true) × FailsFirst n cs)
     go true rest e = inr (refl, rest e)
     go false rest e = inl (refl, e)
 

@@ -17,14 +17,14 @@ use Rattle.definitions.specs.Sameness.{names, isSetting, isArrival, isTi
 use Rattle.definitions.specs.Limits.{LengthsFit, ClientLimits, StockLimits, standing, ordered, CoreLimits}
 use Rattle.definitions.specs.Stretch.{stretch, isOpen, ticks, resets, isOffer, undisturbed, acceptances, tokens}
 use Rattle.definitions.specs.Greedy.{isRefused, refusedEver, refusedSince, refusedAtTicks, offersUntil}
-use Rattle.definitions.specs.GreedyExamples.{idle, joined, offeredOver, among, GreedyOver, GreedyThere, conditions, sole, GreedyNeeded}
+use Rattle.definitions.specs.GreedyExamples.{ticking, joined, offeredOver, among, GreedyOver, GreedyThere, conditions, sole, GreedyNeeded}
 use Rattle.definitions.proofs.Laws.Tests.{cond-same, eqb-cases, eqb-comm}
 use Rattle.definitions.proofs.Everything.{everything}
 
 -- what the examples compute with
 unfoldable computed : Type 0
 unfolding everything after answerAt dealingAt traceOf names isSetting isArrival isTick isOpen ticks resets isOffer undisturbed
-    acceptances tokens isRefused refusedEver refusedSince refusedAtTicks idle joined offeredOver conditions sole
+    acceptances tokens isRefused refusedEver refusedSince refusedAtTicks ticking joined offeredOver conditions sole
 computed = Unit {0}
 
 module _ (n accepted : ℕ) where
@@ -89,7 +89,10 @@ sole-limits n room = record {
   sideLimits = record {
     stockLimits = λ id.
         eqb-cases (λ t. StockLimits (cond t client nobody .kind) (cond t stock bare)) id 3
-        (λ e. record { queues = record { queueHigh = rw length-replicate room; queueLengths = lengths-replicate n }; pools = refl })
+        (λ e. record {
+          queues = record { queueHigh = rw length-replicate room; queueLengths = lengths-replicate n };
+          pools = refl;
+        })
         (λ ne. record { queues = refl; pools = refl });
     orderWhole = λ id.
         standing-replicate id n

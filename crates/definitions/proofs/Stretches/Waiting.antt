@@ -23,7 +23,7 @@ use Rattle.definitions.specs.History.{clientOf, stockOf}
 use Rattle.definitions.specs.Sameness.{names, isSetting, isArrival, isTick}
 use Rattle.definitions.specs.Stretch.{oneIf, isOpen, resets, isOffer}
 use Rattle.definitions.proofs.Laws.Tests.{T-true, T-and, true-false, cond-both, eqb-same}
-use Rattle.definitions.proofs.Laws.Checked.{Passed, FirstFailed, checked-first, checked-spared}
+use Rattle.definitions.proofs.Laws.Checked.{Passed, FailsFirst, checked-first, checked-spared}
 use Rattle.definitions.proofs.Laws.Clients.{put-other, put-cases, put-keeps}
 
 -- how many packets of a client wait
@@ -40,7 +40,7 @@ module _ (s : State) (id : ℕ) (p : Packet) (indifferently : T (isIndifferent (
   below-token true t f = leb-false shares (s .clients id .level) f
   below-token false t f = absurd t
 
-  failed-told : (n : ℕ) → FirstFailed n (arriveChecks s id p) → Told (running s) id n
+  failed-told : (n : ℕ) → FailsFirst n (arriveChecks s id p) → Told (running s) id n
   unfolding arriveChecks activeChecks waits clientOf stockOf
   failed-told n (inl w) = record { full = λ e. omega (arith, w .1); drained = λ e. omega (arith, w .1) }
   failed-told n (inr (_, inl w)) = record { full = λ e. omega (arith, w .1); drained = λ e. omega (arith, w .1) }
@@ -69,7 +69,7 @@ step-told (running s) id (Arrive other p) n indifferently positive refused =
     let both = T-and (eqb other id) (eqb (number (onArrive s other p .answer)) n) refused in
     let own = eqb-true other id (T-true (both .0)) in
     let failed = checked-first n (arriveChecks s other p) (unchanged (running s)) _ positive (eqb-true _ n (T-true (both .1))) in
-    failed-told s id p indifferently n (subst (λ (i : ℕ). FirstFailed n (arriveChecks s i p)) own failed)
+    failed-told s id p indifferently n (subst (λ (i : ℕ). FailsFirst n (arriveChecks s i p)) own failed)
 step-told (running s) id Tick n indifferently positive refused = absurd refused
 
 module _ (s : State) (id : ℕ) where

@@ -5,17 +5,8 @@ use Rattle.greedy.proofs.Offers.{goes-once}
 use Rattle.greedy.proofs.call_once.Statement.{statement}
 use Rattle.greedy.proofs.call_once.Tie as tie
 
-step-requires : tie.Need-step-requires
-step-requires c κs = search needs
-
-step-requires-2 : tie.Need-step-requires-2
-step-requires-2 c κs = search needs
-
-step-requires-3 : tie.Need-step-requires-3
-step-requires-3 c κs = search needs
-
-step-requires-4 : tie.Need-step-requires-4
-step-requires-4 c κs = search needs
+draw-requires : tie.Need-draw-requires
+draw-requires c κs = search needs
 
 call-in-requires : tie.Need-call-in-requires
 call-in-requires c κs = search needs
@@ -32,22 +23,10 @@ turn-requires c κs = search needs
 returns : tie.Need-returns
 returns c =
     let taken = c .before .before .before .before in
-    let made = taken .before .before .before .before .before .before in
-    let drawn = made .before in
-    goes-once _ _ (drawn .before .before .before .step .ensures) (drawn .before .before .step2 .ensures)
-    (drawn .before .step3 .ensures) (drawn .step4 .ensures) (made .call-in .ensures) (taken .take .ensures)
+    let made = taken .before .before .before .before .before .before .before in
+    goes-once _ _ (made .before .draw .ensures) (made .call-in .ensures) (taken .take .ensures)
     (c .before .level-of .ensures _ _ _ _) (c .turn .ensures)
 
 pub call-once-spec : {M : Type 1} → statement M
 call-once-spec =
-    tie.close
-    (tie.spec
-    step-requires
-    step-requires-2
-    step-requires-3
-    step-requires-4
-    call-in-requires
-    take-requires
-    level-of-requires
-    turn-requires
-    returns)
+    tie.close (tie.spec draw-requires call-in-requires take-requires level-of-requires turn-requires returns)

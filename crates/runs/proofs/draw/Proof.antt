@@ -1,0 +1,29 @@
+-- `runs::draw` meets its contract: each draw steps the value that the one before it left. Assumes nothing.
+use borrow.Author.Needs.{needs}
+use Rattle.runs.specs.LongRun.{nthDraw}
+use Rattle.runs.proofs.draw.Statement.{statement}
+use Rattle.runs.proofs.draw.Tie as tie
+
+step-requires : tie.Need-step-requires
+step-requires c κs = search needs
+
+step-requires-2 : tie.Need-step-requires-2
+step-requires-2 c κs = search needs
+
+step-requires-3 : tie.Need-step-requires-3
+step-requires-3 c κs = search needs
+
+step-requires-4 : tie.Need-step-requires-4
+step-requires-4 c κs = search needs
+
+returns : tie.Need-returns
+unfolding nthDraw
+returns c =
+    let a = c .before .before .before .step .ensures in
+    let b = c .before .before .step2 .ensures in
+    let d = c .before .step3 .ensures in
+    let e = c .step4 .ensures in
+    record { first = a; second = cc; third = cc; fourth = cc; maker = cc }
+
+pub draw-spec : {M : Type 1} → statement M
+draw-spec = tie.close (tie.spec step-requires step-requires-2 step-requires-3 step-requires-4 returns)
