@@ -1,5 +1,7 @@
 -- `runs::draw` meets its contract: each draw steps the value that the one before it left. Assumes nothing.
+use mathlib.Core.Path.{ap, _∙_}
 use borrow.Author.Needs.{needs}
+use Rattle.definitions.specs.Generator.{stepped}
 use Rattle.runs.specs.LongRun.{nthDraw}
 use Rattle.runs.proofs.draw.Statement.{statement}
 use Rattle.runs.proofs.draw.Tie as tie
@@ -19,11 +21,11 @@ step-requires-4 c κs = search needs
 returns : tie.Need-returns
 unfolding nthDraw
 returns c =
-    let a = c .before .before .before .step .ensures in
-    let b = c .before .before .step2 .ensures in
-    let d = c .before .step3 .ensures in
-    let e = c .step4 .ensures in
-    record { first = a; second = cc; third = cc; fourth = cc; maker = cc }
+    let first = c .before .before .before .step .ensures in
+    let second = c .before .before .step2 .ensures ∙ ap stepped first in
+    let third = c .before .step3 .ensures ∙ ap stepped second in
+    let fourth = c .step4 .ensures ∙ ap stepped third in
+    record { first = first; second = second; third = third; fourth = fourth; maker = fourth }
 
 pub draw-spec : {M : Type 1} → statement M
 draw-spec = tie.close (tie.spec step-requires step-requires-2 step-requires-3 step-requires-4 returns)
