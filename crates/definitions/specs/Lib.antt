@@ -26,6 +26,7 @@ pub mod Fits
 pub mod Stretch
 pub mod Bound
 pub mod Greedy
+pub mod Guarantee
 pub mod Evenness
 pub mod Cases
 pub mod GreedyExamples
