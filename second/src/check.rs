@@ -1,10 +1,10 @@
 //! The printed example, P1 to P12, every number of the table, the draw of S-1, the stretch of S-10,
-//! and the grammar of the script. Expected values are the papers' own; the seeds and values of
-//! S-1's draws were reckoned apart from this program.
+//! the figure of S-14 and the grammar of the script. Expected values are the papers' own; the seeds
+//! and values of S-1's draws and the figures of S-14 were reckoned apart from this program.
 
 use crate::core::{even_draw, xorshift32, Answer, Call, Core, Draw, Opened, Outcome, INDIFFERENT,
                   PRIVATE};
-use crate::script::{parse, run, Line};
+use crate::script::{number, parse, run, sure, Line};
 
 fn printed(text: &str) -> String {
     String::from_utf8(run(text.as_bytes())).unwrap()
@@ -587,6 +587,313 @@ fn s10_stops_early() {
     let after = stretch(&mut core, 10, 9, some_others).accepted[10];
     assert_eq!((before, after), (12, 12));
     assert_eq!(bought(2048, 1024, 23)[23], 25);
+}
+
+/// A core of threshold 1024 with these clients, each (id, type, rate, burst).
+fn core_of(clients: &[(u32, u32, u32, u32)]) -> Core {
+    let mut core = Core::new();
+    open(&mut core, 1024, 0, 1);
+    for &(id, kind, rate, burst) in clients {
+        assert_eq!(join(&mut core, id, kind, rate, burst), Answer::Accepted);
+    }
+    core
+}
+
+/// So many packets of one client, each accepted.
+fn arrive_times(core: &mut Core, id: u32, times: u32) {
+    for handle in 0..times {
+        assert_eq!(arrive(core, id, handle, 64), Answer::Accepted);
+    }
+}
+
+/// S-14's figure for each n, as it should be.
+fn assert_sure(core: &Core, figures: &[(u32, u32)]) {
+    for &(n, wanted) in figures {
+        assert_eq!(core.sure_picks(n), Some(wanted), "n = {}", n);
+    }
+}
+
+/// "provided one private client is active": 0 without one, and nothing on an unopened core.
+#[test]
+fn s14_no_private_client() {
+    assert_eq!(Core::new().sure_picks(0), None);
+    assert_eq!(Core::new().sure_picks(4294967295), None);
+    let none = [(0, 0), (1, 0), (1000, 0), (4294967295, 0)];
+    assert_sure(&core_of(&[]), &none);
+    assert_sure(&core_of(&[(4, INDIFFERENT, 1, 1)]), &none);
+    let mut core = core_of(&[(4, INDIFFERENT, 1, 1), (1, PRIVATE, 9, 0)]);
+    assert_sure(&core, &[(1000, 999)]); // (1024 + 1000) / 1024 is 1
+    change(&mut core, 1, INDIFFERENT, 9, 1);
+    assert_sure(&core, &none);
+    change(&mut core, 1, PRIVATE, 9, 0);
+    assert_sure(&core, &[(1000, 999)]);
+    core.perform(&Call::Leave { id: 1 });
+    assert_sure(&core, &none);
+}
+
+/// Without indifferent clients every tick picks a private one. Neither the packets of private
+/// clients nor their pools count.
+#[test]
+fn s14_private_only() {
+    let every = [(0, 0), (1, 1), (1000, 1000), (4294967295, 4294967295)];
+    assert_sure(&core_of(&[(63, PRIVATE, 1, 0)]), &every);
+    let mut core = core_of(&[(0, PRIVATE, 1000, 0), (5, PRIVATE, 24, 0)]);
+    arrive_times(&mut core, 0, 32);
+    load(&mut core, 5, 255);
+    assert_sure(&core, &every);
+}
+
+/// The clients of the printed example. Client 3 has 1024 and may send one packet in up to 5 ticks
+/// (1024 + 5 × 200 is 2024), two in 6 to 10, three in 11. Its arrival takes one from the level and
+/// adds one that waits, so that the figure stays; the tick that sends it moves the start.
+#[test]
+fn s14_one_indifferent_client() {
+    let mut core = core_of(&[(2, PRIVATE, 300, 0), (5, PRIVATE, 100, 0), (3, INDIFFERENT, 200, 1)]);
+    let figures = [(0, 0), (1, 0), (2, 1), (5, 4), (6, 4), (10, 8), (11, 8), (1000, 804)];
+    assert_sure(&core, &figures); // (1024 + 200000) / 1024 is 196
+    arrive_times(&mut core, 3, 1);
+    assert_sure(&core, &figures);
+    core.perform(&Call::Tick); // level 200
+    assert_sure(&core, &[(0, 0), (1, 1), (4, 4), (5, 4), (6, 5), (9, 8), (10, 8), (1000, 805)]);
+}
+
+/// Rates 300 and 700 with 2 and 4 waiting and levels of 1024 each. For n = 1000 they are accepted
+/// at most 293 and 684 times, each rounded down (in one sum it would be 978), and 17 are left. The
+/// demand passes n for small n; it is n itself for 338, though it is one less than n for 337.
+#[test]
+fn s14_two_indifferent_clients() {
+    let mut core =
+        core_of(&[(1, PRIVATE, 24, 0), (4, INDIFFERENT, 300, 3), (8, INDIFFERENT, 700, 5)]);
+    arrive_times(&mut core, 4, 2);
+    arrive_times(&mut core, 8, 4);
+    assert_eq!([level(&core, 4), level(&core, 8)], [1024, 1024]);
+    assert_sure(&core, &[(0, 0), (1, 0), (8, 0), (100, 0), (335, 0), (336, 1), (337, 1), (338, 0),
+                         (339, 1), (1000, 17)]);
+}
+
+/// n × rate passes 32 bits. 4294967295 × 1023 is 4393751542785; with a level of 1024 a 1024th of it
+/// is 4290772992, with 65536 it is 4290773055, and so it is for 32 waiting and a level of 32768.
+/// Of 63 clients of rate 16, each with 32 waiting and 32768, each may have 67108895 accepted.
+#[test]
+fn s14_past_32_bits() {
+    let n = 4294967295;
+    assert_sure(&core_of(&[(0, PRIVATE, 1, 0), (1, INDIFFERENT, 1023, 1)]), &[(n, 4194303)]);
+    let mut core = core_of(&[(0, PRIVATE, 1, 0), (1, INDIFFERENT, 1023, 64)]);
+    assert_sure(&core, &[(n, 4194240)]);
+    arrive_times(&mut core, 1, 32);
+    assert_sure(&core, &[(n, 4194240)]);
+    let mut core = core_of(&[(63, PRIVATE, 16, 0)]);
+    for id in 0..63 {
+        assert_eq!(join(&mut core, id, INDIFFERENT, 16, 64), Answer::Accepted);
+        arrive_times(&mut core, id, 32);
+    }
+    assert_sure(&core, &[(n, 67104894)]); // 4294967295 - 63 × 32 - 63 × 67108895
+    assert_sure(&core, &[(4032, 0), (300000, 687)]); // 300000 - 63 × 32 - 63 × 4719
+}
+
+/// "Otherwise, if a private client is active": which slots go by rule 2, and who is private.
+#[test]
+fn s14_rule_2() {
+    assert!(!Core::new().picks_private());
+    assert!(!Core::new().is_private(2));
+    assert!(!core_of(&[]).picks_private());
+    assert!(!core_of(&[(3, INDIFFERENT, 1, 1)]).picks_private());
+    let mut core = core_of(&[(2, PRIVATE, 1, 0), (3, INDIFFERENT, 1, 1)]);
+    assert!(core.is_private(2));
+    for id in [0, 3, 63, 64, 4294967295] {
+        assert!(!core.is_private(id));
+    }
+    assert!(core.picks_private()); // an idle slot
+    load(&mut core, 2, 1);
+    assert!(core.picks_private()); // a dummy
+    arrive(&mut core, 2, 1, 64);
+    assert!(core.picks_private()); // a packet
+    arrive(&mut core, 3, 1, 64);
+    assert!(!core.picks_private());
+    core.perform(&Call::Tick);
+    assert!(core.picks_private());
+}
+
+/// The line in place of the printout. Behind the printed example client 3 has a level of 800 and
+/// nothing waiting: one packet in 2 ticks (1200), two in 10 (2800).
+#[test]
+fn s14_line() {
+    let line = |text: &str, n| String::from_utf8(sure(text.as_bytes(), n)).unwrap();
+    assert_eq!(line(EXAMPLE, 0), "(sure 0 0)\n");
+    assert_eq!(line(EXAMPLE, 1), "(sure 1 1)\n");
+    assert_eq!(line(EXAMPLE, 2), "(sure 2 1)\n");
+    assert_eq!(line(EXAMPLE, 10), "(sure 10 8)\n");
+    assert_eq!(line("(open 1 0 1)\n", 7), "(sure 7 0)\n");
+    let private = "(open 1 0 1)\n(join 0 (private 1))\n";
+    assert_eq!(line(private, 4294967295), "(sure 4294967295 4294967295)\n");
+    // Lines that are refused change nothing, nor do bytes after the last line feed.
+    let refused = format!("{}\n(leave 00)\n(open 0 0 1)\n(leave 0)", private);
+    assert_eq!(line(&refused, 7), "(sure 7 7)\n");
+    assert_eq!(line(&format!("{}(open 1 0 1)\n", private), 7), "(sure 7 0)\n");
+}
+
+/// "core unopened" and "whole text over 60,000 bytes; the only line printed".
+#[test]
+fn s14_line_refused() {
+    for text in ["", "\n", "(tick)\n", "(open 0 0 1)\n", "(open 1 0 1)"] {
+        assert_eq!(sure(text.as_bytes(), 7), b"(refused 19)\n", "{:?}", text);
+    }
+    let private = "(open 1 0 1)\n(join 0 (private 1))\n";
+    let long = format!("{}{}", private, "\n".repeat(60000 - private.len()));
+    assert_eq!(sure(long.as_bytes(), 7), b"(sure 7 7)\n");
+    assert_eq!(sure(format!("{}\n", long).as_bytes(), 7), b"(refused 18)\n");
+    assert_eq!(sure(format!("{}x", long).as_bytes(), 7), b"(refused 18)\n");
+    assert_eq!(sure(&[b'\n'; 60001], 7), b"(refused 18)\n");
+}
+
+/// "A number has no sign and no leading zero, except 0 itself."
+#[test]
+fn s14_number() {
+    let right = [("0", 0), ("7", 7), ("10", 10), ("4294967295", 4294967295)];
+    for (text, wanted) in right {
+        assert_eq!(number(text.as_bytes()), Some(wanted), "{:?}", text);
+    }
+    let wrong = ["", "00", "01", "+1", "-1", "-0", "1e3", "12 ", " 12", "1 2", "12\n", "0x1", "1_0",
+                 "1.0", "x", "#", "\u{663}", "4294967296", "18446744073709551617"];
+    for text in wrong {
+        assert_eq!(number(text.as_bytes()), None, "{:?}", text);
+    }
+    assert_eq!(number(b"1\0"), None);
+    assert_eq!(number(b"\xff"), None);
+}
+
+/// The printed example with a greedy client 3. In 5 ticks it sends once, and 4 picks are just what
+/// is sure; the sixth tick is a pick too, while the figure stays, since what its refill buys can
+/// only go out later.
+#[test]
+fn s14_sure_and_no_more() {
+    let mut core = core_of(&[(2, PRIVATE, 300, 0), (5, PRIVATE, 100, 0), (3, INDIFFERENT, 200, 1)]);
+    assert_sure(&core, &[(5, 4), (6, 4)]);
+    let mut picks = Vec::new();
+    for _ in 0..7 {
+        arrive(&mut core, 3, 1, 64);
+        picks.push(core.picks_private());
+        core.perform(&Call::Tick);
+    }
+    assert_eq!(picks, [false, true, true, true, true, true, false]);
+}
+
+/// Chance for the stretches below: the generator's values, each the start of the next.
+struct Chance {
+    v: u32,
+}
+
+impl Chance {
+    fn below(&mut self, most: u32) -> u32 {
+        self.v = xorshift32(self.v);
+        (self.v >> 7) % most
+    }
+}
+
+/// A core with two to six clients of both types, or of one, in the midst of their packets.
+fn chance_core(chance: &mut Chance) -> Core {
+    let mut core = Core::new();
+    open(&mut core, 1024, chance.below(2), 1 + chance.below(1000));
+    let most = [40, 200, 900][chance.below(3) as usize];
+    join(&mut core, 0, INDIFFERENT, 1 + chance.below(9), 1 + chance.below(3));
+    match chance.below(2) {
+        0 => join(&mut core, 1, PRIVATE, 1, 0),
+        _ => join(&mut core, 1, INDIFFERENT, 1, 2),
+    };
+    for id in 2..6 {
+        let rate = 1 + chance.below(most);
+        match chance.below(3) {
+            0 => join(&mut core, id, PRIVATE, rate, 0),
+            1 => join(&mut core, id, INDIFFERENT, rate, 1 + chance.below(3)),
+            _ => join(&mut core, id, INDIFFERENT, rate, 1 + chance.below(64)),
+        };
+    }
+    for _ in 0..chance.below(150) {
+        arrive(&mut core, chance.below(6), 1, 64);
+        if chance.below(3) == 0 {
+            core.perform(&Call::Tick);
+        }
+    }
+    core
+}
+
+/// A call that S-14's stretch may have beside its ticks: an arrival, a load, or an open, join,
+/// change or leave that is refused. Ids 0 and 1 are active, so that a rate of 1024 gets 10.
+fn chance_call(core: &mut Core, chance: &mut Chance) -> Answer {
+    let id = chance.below(8);
+    let call = match chance.below(12) {
+        0 => Call::Join { id, kind: PRIVATE, rate: 1024, burst: 0 },
+        1 => Call::Join { id: 0, kind: INDIFFERENT, rate: 1, burst: 1 },
+        2 => Call::Change { id, kind: PRIVATE, rate: 1024, burst: 0 },
+        3 => Call::Change { id, kind: INDIFFERENT, rate: 1, burst: 65 },
+        4 => Call::Leave { id: id + 6 },
+        5 => Call::Open { threshold: 1024, discipline: 0, seed: 0 },
+        6 | 7 => return load(core, id, chance.below(40)),
+        _ => return arrive(core, id, 1, 63 + chance.below(1457)),
+    };
+    let answer = core.perform(&call);
+    assert!(matches!(answer, Answer::Refused(_)));
+    answer
+}
+
+/// The indifferent clients' arrivals before a tick: none, one of some client, or, for greed 2, from
+/// each as many as it is granted.
+fn chance_arrivals(core: &mut Core, greed: u32, chance: &mut Chance) {
+    if greed == 1 {
+        arrive(core, chance.below(6), 1, 64);
+    }
+    for id in 0..6 {
+        while greed == 2 && !core.is_private(id) && arrive(core, id, 1, 64) == Answer::Accepted {}
+    }
+}
+
+/// Whether the outcome bears the id of a private client: in a stretch without a change of type this
+/// is so of rule 2's slots alone.
+fn private_outcome(core: &Core, answer: &Answer) -> bool {
+    match *answer {
+        Answer::Slot(Outcome::Real { id, .. }) => core.is_private(id),
+        Answer::Slot(Outcome::Dummy { id }) | Answer::Slot(Outcome::Idle { id }) => {
+            assert!(core.is_private(id));
+            true
+        }
+        _ => false,
+    }
+}
+
+/// A stretch of n ticks: the figure at its start, and the picks counted. Of each part of it that
+/// starts with it the same is promised.
+fn chance_stretch(core: &mut Core, n: u32, greed: u32, chance: &mut Chance) -> (u32, u32) {
+    let start = core.clone();
+    let mut picks = 0;
+    for ticks in 1..=n {
+        for _ in 0..chance.below(3) {
+            chance_call(core, chance);
+        }
+        chance_arrivals(core, greed, chance);
+        let picked = core.picks_private();
+        let answer = core.perform(&Call::Tick);
+        assert_eq!(private_outcome(core, &answer), picked);
+        picks += u32::from(picked);
+        assert!(picks >= start.sure_picks(ticks).unwrap());
+    }
+    (start.sure_picks(n).unwrap(), picks)
+}
+
+/// S-14: "private clients together are picked at least" so often; at times just so often, and at
+/// times more.
+#[test]
+fn s14_stretches() {
+    let mut chance = Chance { v: 14 };
+    let (mut just, mut more, mut nobody) = (0, 0, 0);
+    for count in 0..3000 {
+        let mut core = chance_core(&mut chance);
+        let n = chance.below([5, 50, 150][count % 3]);
+        let (figure, picks) = chance_stretch(&mut core, n, chance.below(3), &mut chance);
+        just += u32::from(figure > 0 && picks == figure);
+        more += u32::from(figure > 0 && picks > figure);
+        nobody += u32::from(n > 0 && (0..64).all(|id| !core.is_private(id)));
+    }
+    assert!(just > 100 && more > 100 && nobody > 100, "{} {} {}", just, more, nobody);
 }
 
 #[test]

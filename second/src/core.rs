@@ -485,3 +485,60 @@ impl Opened {
         }
     }
 }
+
+/// What S-14 of paper 02 asks of a core: these functions only look.
+#[allow(dead_code)] // not every program asks
+impl Core {
+    /// Paper 02, S-14: "Over n ticks without open, hand-over, join, change, leave or change of type
+    /// by timetable, on one side of the box, private clients together are picked at least" so
+    /// often. The core has one side, and neither hand-overs nor timetables. `None`: unopened.
+    pub fn sure_picks(&self, n: u32) -> Option<u32> {
+        let opened = self.opened.as_ref()?;
+        Some(opened.sure_picks(n))
+    }
+
+    /// Whether a tick made now goes by rule 2: no "indifferent client has a packet", and "a private
+    /// client is active". "Rule 2 picks the client drawn, whatever it sends." "An unopened core's
+    /// tick has no slot", and so no pick.
+    pub fn picks_private(&self) -> bool {
+        let Some(opened) = &self.opened else {
+            return false;
+        };
+        opened.indifferent_waiting().is_empty() && !opened.private_clients().is_empty()
+    }
+
+    /// "An active client is indifferent (type 1) or private (type 2)." Whether the id is that of an
+    /// active client, and this is private.
+    pub fn is_private(&self, id: u32) -> bool {
+        let Some(opened) = &self.opened else {
+            return false;
+        };
+        opened.private_clients().contains(&id)
+    }
+}
+
+/// The terms of S-14's figure, on numbers of 64 bits.
+#[allow(dead_code)] // as above
+impl Opened {
+    /// Paper 02, S-14: "n minus" the demand, "provided one private client is active"; 0 where none
+    /// is, and where the demand passes n: no count of picks is below 0.
+    fn sure_picks(&self, n: u32) -> u32 {
+        if self.private_clients().is_empty() {
+            return 0;
+        }
+        u64::from(n).saturating_sub(self.demand(n)) as u32 // at most n
+    }
+
+    /// Paper 02, S-14: "the indifferent packets waiting there at the start", and "the sum, over
+    /// indifferent clients, of (level at the start + n × rate) / 1024 rounded down".
+    fn demand(&self, n: u32) -> u64 {
+        let mut sum: u64 = 0;
+        for client in self.clients.iter().flatten() {
+            if client.kind == INDIFFERENT {
+                sum += client.queue.len() as u64;
+                sum += (u64::from(client.level) + u64::from(n) * u64::from(client.rate)) / 1024;
+            }
+        }
+        sum
+    }
+}

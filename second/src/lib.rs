@@ -1,5 +1,5 @@
-//! The slot core of paper 01, as amended by S-1 of paper 02, and its script, written from these
-//! words alone.
+//! The slot core of paper 01, as amended by S-1 of paper 02, its script, and the figure of S-14,
+//! written from these words alone.
 
 pub mod core;
 pub mod maker;

@@ -1,4 +1,4 @@
-//! "Script and printout" of paper 01, on raw bytes.
+//! "Script and printout" of paper 01, on raw bytes, and the line of S-14's figure (paper 02).
 
 use crate::core::{Answer, Call, Core, Outcome, INDIFFERENT, PRIVATE};
 
@@ -142,12 +142,42 @@ fn words(outcome: &Outcome) -> String {
     }
 }
 
-/// The whole printout. "18 | whole text over 60,000 bytes; the only line printed"; "One form a
-/// line, each line closed by a line feed"; "bytes after the last line feed, give 16"; "An empty
-/// script prints nothing."
+/// The whole printout. "18 | whole text over 60,000 bytes; the only line printed".
 pub fn run(text: &[u8]) -> Vec<u8> {
-    if text.len() > 60000 {
+    match carry_out(text) {
+        Some((_, printout)) => printout.into_bytes(),
+        None => print(&Answer::Refused(18)).into_bytes(),
+    }
+}
+
+/// The line that stands in place of the printout where the figure of S-14 (paper 02) is asked for:
+/// what "private clients together" are sure of over n ticks of the core behind the script. "every
+/// call but open | 19 | core unopened" is read of the question too.
+pub fn sure(text: &[u8], n: u32) -> Vec<u8> {
+    let Some((core, _)) = carry_out(text) else {
         return print(&Answer::Refused(18)).into_bytes();
+    };
+    match core.sure_picks(n) {
+        Some(picks) => format!("(sure {} {})\n", n, picks).into_bytes(),
+        None => print(&Answer::Refused(19)).into_bytes(),
+    }
+}
+
+/// A number that stands alone, spelt as in a script: "A number has no sign and no leading zero,
+/// except 0 itself." Nothing for any other text, and for a number "above 4294967295".
+pub fn number(text: &[u8]) -> Option<u32> {
+    if number_length(text)? < text.len() {
+        return None;
+    }
+    value(text)
+}
+
+/// The core behind a script and the script's printout; nothing for a "whole text over 60,000
+/// bytes". "One form a line, each line closed by a line feed"; "bytes after the last line feed,
+/// give 16"; "An empty script prints nothing."
+fn carry_out(text: &[u8]) -> Option<(Core, String)> {
+    if text.len() > 60000 {
+        return None;
     }
     let mut core = Core::new();
     let mut printout = String::new();
@@ -163,7 +193,7 @@ pub fn run(text: &[u8]) -> Vec<u8> {
     if !line.is_empty() {
         printout.push_str(&print(&Answer::Refused(16)));
     }
-    printout.into_bytes()
+    Some((core, printout))
 }
 
 /// "A line that yields no form is answered and skipped."
