@@ -1,6 +1,6 @@
--- The calls behind a run are a stretch of the definitions, from the core that the tables of the run mean; so the bound and S-10
--- hold of the answers that the code gave. That the rate is within its limit is one of the limits of a run. Assumes nothing.
-use Prim.Native.Nat.{_≤_}
+-- The calls behind a run are a stretch of the definitions, from the core that the tables of the run mean; so the bound, S-10 and
+-- S-14 hold of what the code gave. That the core is within its limits is so of every run. Assumes nothing.
+use Prim.Native.Nat.{_+_, _≤_}
 use mathlib.Core.Path.{_≡_, subst⁻¹}
 use lib.Dec.{T}
 use Rattle.definitions.specs.Client.{isIndifferent}
@@ -8,8 +8,10 @@ use Rattle.definitions.specs.History.{History, Trace, clientOf}
 use Rattle.definitions.specs.Stretch.{stretch, ticks, undisturbed, acceptances, bought}
 use Rattle.definitions.specs.Bound.{Bound}
 use Rattle.definitions.specs.Greedy.{Greedy}
+use Rattle.definitions.specs.Guarantee.{steady, picks, privateActive, demand, sure}
 use Rattle.definitions.proofs.Bound.{bound}
 use Rattle.definitions.proofs.Stretches.Greedy.{rate-limited, greedy-exact}
+use Rattle.definitions.proofs.Stretches.Guarantee.{guarantee as guaranteed}
 use Rattle.tables.specs.declared.Control.{Control}
 use Rattle.tables.specs.Tables.{Tables}
 use Rattle.tables.specs.Meaning.{coreOf}
@@ -45,4 +47,10 @@ code-stretch = record {
       greedy-exact .anywhere (coreAfter run) id history
       (rate-limited (coreAfter run) id (run-limits .limits run) (greedy .indifferently))
       greedy);
+  guarantee = λ run calls active.
+      of-calls (λ t. T (steady t) → ticks t ≤ picks t + demand (coreAfter run) (ticks t)) calls
+      (λ history. guaranteed .anywhere (coreAfter run) history (run-limits .limits run) active);
+  figure = λ run calls.
+      of-calls (λ t. T (steady t) → sure (coreAfter run) (ticks t) ≤ picks t) calls
+      (λ history. guaranteed .figure (coreAfter run) history (run-limits .limits run));
 }

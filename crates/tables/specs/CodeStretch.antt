@@ -1,13 +1,15 @@
--- What an indifferent client's packets get of the code, in any calls behind any run, each keeping its promise: the bound of paper
--- 01 and S-10 of paper 02. What is accepted, refused and ticked is read off the answers that the code gave; the client's terms
--- are those that the tables of the run mean.
-use Prim.Native.Nat.{ℕ, _≤_}
+-- What is so of the code in any calls behind any run, each keeping its promise: what an indifferent client's packets get, the
+-- bound of paper 01 and S-10 of paper 02, and what the private side is sure to get, S-14. What is accepted, refused and ticked is
+-- read off the answers that the code gave; whom a slot picks, and the clients and what waits at the start, off the core that the
+-- tables mean.
+use Prim.Native.Nat.{ℕ, _+_, _≤_}
 use mathlib.Core.Path.{_≡_}
 use lib.Dec.{T}
 use Rattle.definitions.specs.Client.{isIndifferent}
 use Rattle.definitions.specs.History.{Trace, clientOf}
 use Rattle.definitions.specs.Stretch.{ticks, undisturbed, acceptances, bought}
 use Rattle.definitions.specs.Greedy.{Greedy}
+use Rattle.definitions.specs.Guarantee.{steady, picks, privateActive, demand, sure}
 use Rattle.tables.specs.declared.Control.{Control}
 use Rattle.tables.specs.Tables.{Tables}
 use Rattle.tables.specs.Promise.{Meets}
@@ -26,3 +28,14 @@ pub record CodeStretch : Type 0 where
       → CallsFrom Meets (run .control) (run .tables) t c u
       → Greedy id (clientOf (coreAfter run) id) t
       → acceptances id t ≡ bought (clientOf (coreAfter run) id) (ticks t)
+  -- "private clients together are picked at least n minus .., provided one private client is active"
+  pub guarantee : (run : Run) {t : Trace} {c : Control} {u : Tables}
+      → CallsFrom Meets (run .control) (run .tables) t c u
+      → T (privateActive (coreAfter run))
+      → T (steady t)
+      → ticks t ≤ picks t + demand (coreAfter run) (ticks t)
+  -- so at least the figure, private client or not
+  pub figure : (run : Run) {t : Trace} {c : Control} {u : Tables}
+      → CallsFrom Meets (run .control) (run .tables) t c u
+      → T (steady t)
+      → sure (coreAfter run) (ticks t) ≤ picks t

@@ -1,6 +1,6 @@
 -- Sums and searches over the first n ids. By induction on n. Assumes nothing.
 use Prim.Native.Nat.{ℕ, zero, suc, _+_, _≤_, _<_}
-use mathlib.Core.Path.{_≡_, refl, ap, _∙_}
+use mathlib.Core.Path.{_≡_, refl, sym, ap, _∙_}
 use mathlib.Core.Bool.{Bool, true, false, _||_}
 use native.Mathlib.Omega.{arith}
 use Rattle.definitions.specs.Draw.{sumBelow}
@@ -32,6 +32,19 @@ sumBelow-plus (suc n) f g h both =
     let here : h n ≡ f n + g n = both n (omega arith) in
     let below : sumBelow n h ≡ sumBelow n f + sumBelow n g = sumBelow-plus n f g h (λ i l. both i (omega arith)) in
     omega arith
+
+-- two sums of which each pair of terms comes to the same
+pub sumBelow-balance : (n : ℕ) (f g h k : ℕ → ℕ) → ((i : ℕ) → i < n → f i + g i ≡ h i + k i)
+    → sumBelow n f + sumBelow n g ≡ sumBelow n h + sumBelow n k
+sumBelow-balance n f g h k same =
+    sym (sumBelow-plus n f g (λ i. f i + g i) (λ i l. refl)) ∙ sumBelow-plus n h k (λ i. f i + g i) same
+
+-- a sum of terms that are each at most another's is at most the other
+pub sumBelow-least : (n : ℕ) (f g : ℕ → ℕ) → ((i : ℕ) → i < n → f i ≤ g i) → sumBelow n f ≤ sumBelow n g
+unfolding sumBelow
+sumBelow-least zero f g least = omega arith
+sumBelow-least (suc n) f g least =
+    omega (arith, least n (omega arith), sumBelow-least n f g (λ i l. least i (omega arith)))
 
 -- each of the summed is at most the sum
 pub sumBelow-part : (n i : ℕ) (f : ℕ → ℕ) → i < n → f i ≤ sumBelow n f
