@@ -5,3 +5,5 @@ pub mod Greedy
 pub mod GreedyExamples
 pub mod Steady
 pub mod Guarantee
+pub mod GuaranteeBest
+pub mod GuaranteeExamples

@@ -73,12 +73,17 @@ pub record Guarantee : Type 0 where
       → T (privateActive core)
       → T (steady (stretch core calls))
       → ticks (stretch core calls) ≤ picks (stretch core calls) + demand core (ticks (stretch core calls))
-  -- so with the figure, which claims nothing where no private client is active
+  -- So with the figure, which claims nothing where no private client is active. It may be lower for more ticks; what is sure
+  -- within m ticks is so within more.
   pub figure : (core : Core) (calls : History)
       → CoreLimits core
       → T (steady (stretch core calls))
-      → sure core (ticks (stretch core calls)) ≤ picks (stretch core calls)
+      → (m : ℕ)
+      → m ≤ ticks (stretch core calls)
+      → sure core m ≤ picks (stretch core calls)
   -- and so from every core on that a history reaches
   pub reached : (h calls : History)
       → T (steady (stretch (after scheduler h) calls))
-      → sure (after scheduler h) (ticks (stretch (after scheduler h) calls)) ≤ picks (stretch (after scheduler h) calls)
+      → (m : ℕ)
+      → m ≤ ticks (stretch (after scheduler h) calls)
+      → sure (after scheduler h) m ≤ picks (stretch (after scheduler h) calls)

@@ -30,6 +30,7 @@ pub mod Guarantee
 pub mod Evenness
 pub mod Cases
 pub mod GreedyExamples
+pub mod GuaranteeExamples
 -- what is easy to get wrong
 pub mod Facts
 -- what the claims rule out

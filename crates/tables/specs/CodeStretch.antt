@@ -34,8 +34,10 @@ pub record CodeStretch : Type 0 where
       → T (privateActive (coreAfter run))
       → T (steady t)
       → ticks t ≤ picks t + demand (coreAfter run) (ticks t)
-  -- so at least the figure, private client or not
+  -- so at least the figure for any number of ticks up to those, private client or not
   pub figure : (run : Run) {t : Trace} {c : Control} {u : Tables}
       → CallsFrom Meets (run .control) (run .tables) t c u
       → T (steady t)
-      → sure (coreAfter run) (ticks t) ≤ picks t
+      → (m : ℕ)
+      → m ≤ ticks t
+      → sure (coreAfter run) m ≤ picks t

@@ -46,7 +46,7 @@ contends-ordered c k e =
     let at = contends-contender c k e in
     rw (at .indifferently, at .waiting) (omega arith)
 
-ordered-contends : (c : Client) (k : Stock) → 0 < ordered c k → contends c k ≡ true
+pub ordered-contends : (c : Client) (k : Stock) → 0 < ordered c k → contends c k ≡ true
 ordered-contends c k some = go (contends c k) refl
   where
     go : (b : Bool) → contends c k ≡ b → contends c k ≡ true

@@ -24,7 +24,7 @@ use Rattle.definitions.specs.Limits.{StateLimits, CoreLimits, Limits}
 use Rattle.definitions.specs.Stretch.{stretch, behind, oneIf, ticks, isOffer, acceptances, bought}
 use Rattle.definitions.specs.Bound.{Bound}
 use Rattle.definitions.specs.Guarantee.{steady, isPrivatePick, picks, privateActive, overIndifferent, backlog, demand, sure, SlotsShared, Guarantee}
-use Rattle.definitions.proofs.Laws.Tests.{T-true, true-false, cond-same}
+use Rattle.definitions.proofs.Laws.Tests.{T-true, true-false, lt-cases, cond-same}
 use Rattle.definitions.proofs.Laws.Sums.{sumBelow-same, sumBelow-zero, sumBelow-balance, sumBelow-least, sumBelow-other, anyBelow-true}
 use Rattle.definitions.proofs.Laws.Rules.{rule-cases, turn-rule}
 use Rattle.definitions.proofs.Laws.Clients.{put-same, put-other, put-cases}
@@ -35,7 +35,7 @@ use Rattle.definitions.proofs.Stretches.Waiting.{waits, step-waits}
 use Rattle.definitions.proofs.Stretches.Steady.{spared-resets, steady-before, steady-undisturbed, step-kind, stretch-kind}
 
 -- one more is one added
-oneIf-plus : (b : Bool) (n : ℕ) → oneIf b n ≡ oneIf b 0 + n
+pub oneIf-plus : (b : Bool) (n : ℕ) → oneIf b n ≡ oneIf b 0 + n
 oneIf-plus true n = omega arith
 oneIf-plus false n = omega arith
 
@@ -72,7 +72,7 @@ over-least core f g least = sumBelow-least ids _ _ (λ id below. go id (isIndiff
     go id false e = omega arith
 
 -- a private client that is active stays so
-private-stays : (core other : Core)
+pub private-stays : (core other : Core)
     → ((id : ℕ) → clientOf other id .kind ≡ clientOf core id .kind)
     → T (privateActive core)
     → T (privateActive other)
@@ -153,11 +153,11 @@ module _ (s : State) where
   tick-left known active = turn-left known active
 
 -- an unopened core has nobody
-unopened-private : T (privateActive unopened) → ⊥
+pub unopened-private : T (privateActive unopened) → ⊥
 unfolding privateActive clientOf
 unopened-private active = true-false (anyBelow-true ids (λ id. false) (T-true active) .2) refl
 
-tick-shared : (core : Core)
+pub tick-shared : (core : Core)
     → CoreLimits core
     → T (privateActive core)
     → oneIf (isPrivatePick (pickOf core)) (backlog core) ≡ suc (backlog (step core Tick .core))
@@ -207,7 +207,7 @@ step-shared core (Leave id) accepted known active spared = sym (call-shared core
 step-shared core (Load id dummies) accepted known active spared = sym (call-shared core (Load id dummies) accepted refl spared)
 step-shared core (Arrive id p) accepted known active spared = sym (call-shared core (Arrive id p) accepted refl spared)
 
-behind-limits : (core : Core) → CoreLimits core → (h : History) → CoreLimits (behind core h)
+pub behind-limits : (core : Core) → CoreLimits core → (h : History) → CoreLimits (behind core h)
 unfolding after
 behind-limits core known start = known
 behind-limits core known (h then c) = step-limits (behind core h) (behind-limits core known h) c
@@ -253,6 +253,7 @@ guaranteed core calls known active calm =
           (λ id indifferently. bound core id calls indifferently (steady-undisturbed id t calm)),
     )
 
+-- the figure for as many ticks as there are
 figured : (core : Core) (calls : History)
     → CoreLimits core
     → T (steady (stretch core calls))
@@ -263,14 +264,46 @@ figured core calls known calm = go (privateActive core) (λ active. guaranteed c
     n : ℕ
     n = ticks (stretch core calls)
 
-    go : (b : Bool) → (T b → n ≤ picks (stretch core calls) + demand core n) → cond b (n - demand core n) 0 ≤ picks (stretch core calls)
+    picked : ℕ
+    picked = picks (stretch core calls)
+
+    go : (b : Bool) → (T b → n ≤ picked + demand core n) → cond b (n - demand core n) 0 ≤ picked
     go true e = omega (arith, e tt)
     go false e = omega arith
+
+-- and for fewer: ticks and picks only grow
+figured-within : (core : Core) (calls : History)
+    → CoreLimits core
+    → T (steady (stretch core calls))
+    → (m : ℕ)
+    → m ≤ ticks (stretch core calls)
+    → sure core m ≤ picks (stretch core calls)
+unfolding picks ticks traceOf dealingAt answerAt
+figured-within core start known calm m early =
+    let none : m ≡ 0 = omega arith in
+    rw none (figured core start known calm)
+figured-within core (h then c) known calm m early =
+    let n = ticks (stretch core h) in
+    let picked = isTick c && isPrivatePick (pickOf (behind core h)) in
+    lt-cases n m
+    (λ last.
+    let whole : m ≡ ticks (stretch core (h then c)) = go (isTick c) last early in
+    rw whole (figured core (h then c) known calm))
+    (λ before.
+    omega (
+      arith,
+      figured-within core h known (steady-before core h c calm .0) m before,
+      oneIf-plus picked (picks (stretch core h)),
+    ))
+  where
+    go : (b : Bool) → ticks (stretch core h) < m → m ≤ oneIf b (ticks (stretch core h)) → m ≡ oneIf b (ticks (stretch core h))
+    go true last early = omega arith
+    go false last early = omega arith
 
 pub guarantee : Guarantee
 unfolding Limits
 guarantee = record {
   anywhere = guaranteed;
-  figure = figured;
-  reached = λ h calls. figured (after scheduler h) calls (limits h);
+  figure = figured-within;
+  reached = λ h calls. figured-within (after scheduler h) calls (limits h);
 }
