@@ -136,12 +136,15 @@ busy-pick (running s) a some =
     subst (λ (r : Rule). isPrivatePick (pickBy r (turn s .id)) ≡ false) (sym (turn-rule s))
     (rule-cases (λ r. isPrivatePick (pickBy r (turn s .id)) ≡ false) s
     (λ id below waits. refl)
-    (λ none id below secret. true-false (ordered-contends (s .clients 3) (s .side .stocks 3) (go (isIndifferent (s .clients 3 .kind)) (a .kind))) (none 3 (lit< tt)))
-    (λ none noneSecret. refl))
+    (λ none id below secret. true-false contending (none 3 (lit< tt)))
+    (λ none noneSecret. true-false contending (none 3 (lit< tt))))
   where
     go : (b : Bool) → T b → 0 < cond b (length (s .side .stocks 3 .queue)) 0
     go true t = some
     go false t = absurd t
+
+    contending : contends (s .clients 3) (s .side .stocks 3) ≡ true
+    contending = ordered-contends (s .clients 3) (s .side .stocks 3) (go (isIndifferent (s .clients 3 .kind)) (a .kind))
 
 -- a packet of client 3 is accepted if it has a token and nothing waiting
 offer-accepted : (core : Core) → Alone core → clientOf core 3 .level ≡ 1024 → waits core 3 ≡ 0 → step core offer .answer ≡ Accepted
