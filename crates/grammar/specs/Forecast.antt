@@ -6,7 +6,7 @@ use mathlib.Core.List.{List, [], _∷_}
 use lib.Dec.{ltb}
 use lib.ListN.{length}
 use Rattle.definitions.specs.declared.Answer.the-variants.{Refused}
-use Rattle.definitions.specs.State.{State, Core, unopened, running}
+use Rattle.definitions.specs.State.{Core, unopened, running}
 use Rattle.definitions.specs.Guarantee.{sure}
 use Rattle.grammar.specs.Bytes.{bytes, textLimit}
 use Rattle.grammar.specs.Templates.{filled}

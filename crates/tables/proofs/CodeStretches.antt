@@ -8,7 +8,7 @@ use Rattle.definitions.specs.History.{History, Trace, clientOf}
 use Rattle.definitions.specs.Stretch.{stretch, ticks, undisturbed, acceptances, bought}
 use Rattle.definitions.specs.Bound.{Bound}
 use Rattle.definitions.specs.Greedy.{Greedy}
-use Rattle.definitions.specs.Guarantee.{steady, picks, privateActive, demand, sure}
+use Rattle.definitions.specs.Guarantee.{steady, picks, demand, sure}
 use Rattle.definitions.proofs.Bound.{bound}
 use Rattle.definitions.proofs.Stretches.Greedy.{rate-limited, greedy-exact}
 use Rattle.definitions.proofs.Stretches.Guarantee.{guarantee as guaranteed}

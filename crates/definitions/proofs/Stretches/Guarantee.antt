@@ -4,11 +4,9 @@
 use Prim.Native.Nat.{ℕ, suc, _+_, _-_, _≤_, _<_}
 use mathlib.Core.Path.{_≡_, refl, sym, ap, subst, fun-ext, _∙_}
 use mathlib.Core.Bool.{Bool, true, false, cond, not, _&&_}
-use mathlib.Core.List.{List, [], _∷_, tail}
 use native.Mathlib.Omega.{arith}
 use lib.Dec.{T}
 use lib.ListN.{length}
-use Rattle.definitions.specs.declared.Packet.{Packet}
 use Rattle.definitions.specs.Event.{Event, Open, Join, Change, Leave, Load, Arrive, Tick}
 use Rattle.definitions.specs.Sizes.{ids}
 use Rattle.definitions.specs.Draw.{sumBelow}
@@ -153,16 +151,20 @@ module _ (s : State) where
   tick-left known active = turn-left known active
 
 -- an unopened core has nobody
-pub unopened-private : T (privateActive unopened) → ⊥
+pub unopened-private : privateActive unopened ≡ false
 unfolding privateActive clientOf
-unopened-private active = true-false (anyBelow-true ids (λ id. false) (T-true active) .2) refl
+unopened-private = go (anyBelow ids (λ id. false)) refl
+  where
+    go : (b : Bool) → anyBelow ids (λ id. false) ≡ b → b ≡ false
+    go true e = true-false (anyBelow-true ids (λ id. false) e .2) refl
+    go false e = refl
 
 pub tick-shared : (core : Core)
     → CoreLimits core
     → T (privateActive core)
     → oneIf (isPrivatePick (pickOf core)) (backlog core) ≡ suc (backlog (step core Tick .core))
 unfolding step
-tick-shared unopened known active = absurd (unopened-private active)
+tick-shared unopened known active = true-false (T-true active) unopened-private
 tick-shared (running s) known active = tick-left s known active
 
 -- Behind a call that is no tick as many wait as before, and those that it got accepted.

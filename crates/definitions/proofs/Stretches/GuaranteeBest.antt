@@ -12,22 +12,21 @@ use borrow.Author.Tests.{ne-eqb}
 use Rattle.definitions.specs.declared.Answer.the-variants.{Accepted}
 use Rattle.definitions.specs.Event.{Event, Tick}
 use Rattle.definitions.specs.Sizes.{ids, places, shares, shortest, longest}
-use Rattle.definitions.specs.Draw.{sumBelow}
 use Rattle.definitions.specs.Client.{Kind, Client, indifferent, isIndifferent}
-use Rattle.definitions.specs.State.{State, Core, unopened, running}
+use Rattle.definitions.specs.State.{Core, unopened, running}
 use Rattle.definitions.specs.Answers.{isAccepted}
 use Rattle.definitions.specs.Checks.{checked, within, activeChecks, arriveChecks}
 use Rattle.definitions.specs.Calls.{onArrive}
-use Rattle.definitions.specs.Tick.{Rule, rule1, ruleOf, turn, contends}
+use Rattle.definitions.specs.Tick.{Rule, turn, contends}
 use Rattle.definitions.specs.Core.{step}
-use Rattle.definitions.specs.History.{History, start, _then_, after, answerAt, dealingAt, traceOf, clientOf, stockOf, pickBy, pickOf}
+use Rattle.definitions.specs.History.{History, _then_, after, answerAt, dealingAt, traceOf, clientOf, stockOf, pickBy, pickOf}
 use Rattle.definitions.specs.Sameness.{names, isSetting, isArrival, isTick}
 use Rattle.definitions.specs.Limits.{ordered, CoreLimits, Limits}
 use Rattle.definitions.specs.Stretch.{stretch, behind, oneIf, isOpen, ticks, resets, isOffer, tokens, bought}
 use Rattle.definitions.specs.Bound.{spill}
 use Rattle.definitions.specs.Guarantee.{steady, isPrivatePick, picks, privateActive, overIndifferent, backlog, demand, sure}
 use Rattle.definitions.specs.GreedyExamples.{offer, ticking, joined}
-use Rattle.definitions.specs.GuaranteeExamples.{withToken, withHalf, beginning, taking, Exactly, GuaranteeBest}
+use Rattle.definitions.specs.GuaranteeExamples.{withToken, withHalf, beginning, taking, GuaranteeBest}
 use Rattle.definitions.proofs.Laws.Tests.{T-true, true-false, cond-both, eqb-cases}
 use Rattle.definitions.proofs.Laws.Kinds.{indifferent-kind}
 use Rattle.definitions.proofs.Laws.Sums.{sumBelow-zero, sumBelow-other}
@@ -131,7 +130,7 @@ module _ (core : Core) (a : Alone core) where
 -- a slot that client 3 waits for is none
 busy-pick : (core : Core) → Alone core → 0 < waits core 3 → isPrivatePick (pickOf core) ≡ false
 unfolding waits clientOf stockOf ids ordered
-busy-pick unopened a some = absurd (unopened-private (a .active))
+busy-pick unopened a some = true-false (T-true (a .active)) unopened-private
 busy-pick (running s) a some =
     subst (λ (r : Rule). isPrivatePick (pickBy r (turn s .id)) ≡ false) (sym (turn-rule s))
     (rule-cases (λ r. isPrivatePick (pickBy r (turn s .id)) ≡ false) s
@@ -149,7 +148,7 @@ busy-pick (running s) a some =
 -- a packet of client 3 is accepted if it has a token and nothing waiting
 offer-accepted : (core : Core) → Alone core → clientOf core 3 .level ≡ 1024 → waits core 3 ≡ 0 → step core offer .answer ≡ Accepted
 unfolding step clientOf stockOf waits onArrive arriveChecks activeChecks checked within ids places shares shortest longest
-offer-accepted unopened a level none = absurd (unopened-private (a .active))
+offer-accepted unopened a level none = true-false (T-true (a .active)) unopened-private
 offer-accepted (running s) a level none =
     let kind : s .clients 3 .kind ≡ indifferent = indifferent-kind (s .clients 3 .kind) (T-true (a .kind)) in
     rw (kind, level, none)

@@ -17,7 +17,7 @@ use Rattle.definitions.specs.Sameness.{names, isSetting}
 use Rattle.definitions.specs.Stretch.{stretch, behind, isOpen, resets, undisturbed}
 use Rattle.definitions.specs.Guarantee.{steady}
 use Rattle.definitions.proofs.Laws.Tests.{T-and, true-false}
-use Rattle.definitions.proofs.Laws.Checked.{Passed, checked-cases, checked-spared}
+use Rattle.definitions.proofs.Laws.Checked.{checked-cases, checked-spared}
 use Rattle.definitions.proofs.Laws.Clients.{put-keeps}
 use Rattle.definitions.proofs.Facts.{tick-client}
 
