@@ -2,12 +2,15 @@
 //! The program under test and the second program are both held to what is written down.
 //!
 //! A line of a file is `LINE => ANSWER`, `N times LINE => ANSWER`, `LINE ~> ANSWER` (the last line of the text, without its line
-//! feed), empty, or a comment that begins with `#`. In LINE, \0, \t, \r, \\ and \xHH stand for a byte.
+//! feed), empty, or a comment that begins with `#`. In LINE, \0, \t, \r, \\ and \xHH stand for a byte. `--sure N => ANSWER` is no
+//! line of the text: it asks for S-14's figure (paper 02) behind the lines above it, and ANSWER is all that is printed then.
 
 use tests::program;
 
 struct Case {
     name: String,
+    /// The N of `--sure N`; without it the printout is asked for.
+    sure: Option<u32>,
     text: Vec<u8>,
     expected: Vec<u8>,
 }
@@ -15,8 +18,9 @@ struct Case {
 fn main() {
     let arguments: Vec<String> = std::env::args().collect();
     let slots = &arguments[1];
-    let mut cases: Vec<Case> = arguments[2..].iter().map(|path| read(path)).collect();
+    let mut cases: Vec<Case> = arguments[2..].iter().flat_map(|path| read(path)).collect();
     cases.extend(whole_texts());
+    cases.extend(whole_texts_asked());
     let failed = cases.iter().filter(|case| !holds(slots, case)).count();
     println!("{} passed, {} failed", cases.len() - failed, failed);
     std::process::exit(if failed == 0 { 0 } else { 1 });
@@ -24,9 +28,12 @@ fn main() {
 
 /// Both programs print what is expected.
 fn holds(slots: &str, case: &Case) -> bool {
-    let run = program::run(slots, &case.text);
+    let (run, second) = match case.sure {
+        None => (program::run(slots, &case.text), second::script::run(&case.text)),
+        Some(n) => (program::run_sure(slots, n, &case.text), second::script::sure(&case.text, n)),
+    };
     let first = run.ended_well && agrees("slots", &run.printout, case);
-    let second = agrees("second", &second::script::run(&case.text), case);
+    let second = agrees("second", &second, case);
     if first && second {
         let lines = case.expected.iter().filter(|&&byte| byte == b'\n').count();
         println!("passed: {} ({} bytes, {} printed lines)", case.name, case.text.len(), lines);
@@ -46,16 +53,22 @@ fn agrees(who: &str, printed: &[u8], case: &Case) -> bool {
     false
 }
 
-/// A file of lines and answers.
-fn read(path: &str) -> Case {
+/// A file of lines and answers, and what is asked for behind some of them.
+fn read(path: &str) -> Vec<Case> {
     let content = std::fs::read_to_string(path).unwrap_or_else(|error| panic!("{path}: {error}"));
-    let mut case = Case { name: path.to_string(), text: Vec::new(), expected: Vec::new() };
-    for row in content.lines().filter(|row| !row.is_empty() && !row.starts_with('#')) {
+    let mut case = Case { name: path.to_string(), sure: None, text: Vec::new(), expected: Vec::new() };
+    let mut asked = Vec::new();
+    for (number, row) in (1..).zip(content.lines()).filter(|(_, row)| !row.is_empty() && !row.starts_with('#')) {
         let (line, answer, closed) = match (row.split_once(" => "), row.split_once(" ~> ")) {
             (Some((line, answer)), _) => (line, answer, true),
             (None, Some((line, answer))) => (line, answer, false),
             (None, None) => panic!("{path}: no answer in {row}"),
         };
+        if let Some(n) = line.strip_prefix("--sure ") {
+            let n = second::script::number(n.as_bytes()).expect("a number of ticks");
+            asked.push(question(&format!("{path}:{number}"), n, &case.text, answer));
+            continue;
+        }
         let (times, line) = repeated(line);
         for _ in 0..times {
             case.text.extend(bytes(line));
@@ -66,7 +79,14 @@ fn read(path: &str) -> Case {
             case.expected.push(b'\n');
         }
     }
-    case
+    asked.insert(0, case);
+    asked
+}
+
+/// The figure for n ticks behind a text: "the only line printed".
+fn question(place: &str, n: u32, text: &[u8], answer: &str) -> Case {
+    let expected = format!("{answer}\n").into_bytes();
+    Case { name: format!("{place}, --sure {n}"), sure: Some(n), text: text.to_vec(), expected }
 }
 
 /// `N times LINE` is the line N times.
@@ -106,6 +126,7 @@ fn bytes(line: &str) -> Vec<u8> {
 fn whole_texts() -> Vec<Case> {
     let case = |name: &str, text: Vec<u8>, expected: String| Case {
         name: name.to_string(),
+        sure: None,
         text,
         expected: expected.into_bytes(),
     };
@@ -126,5 +147,18 @@ fn whole_texts() -> Vec<Case> {
         case("65,536 bytes of ticks", ticks(65536), too_long.clone()),
         case("65,537 bytes of ticks", ticks(65537), too_long.clone()),
         case("a million bytes of ticks", ticks(1_000_000), too_long),
+    ]
+}
+
+/// The same limit where a figure is asked for; without indifferent clients all ticks are sure.
+fn whole_texts_asked() -> Vec<Case> {
+    let opened = b"(open 1 0 1)\n(join 0 (private 1))\n".to_vec();
+    let filled = |bytes: usize| [&opened[..], &vec![b'\n'; bytes - opened.len()]].concat();
+    vec![
+        question("an empty script", 7, b"", "(refused 19)"),
+        question("60,000 bytes", 7, &filled(60_000), "(sure 7 7)"),
+        question("60,001 bytes", 7, &filled(60_001), "(refused 18)"),
+        question("60,001 bytes without an open", 7, &vec![b'\n'; 60_001], "(refused 18)"),
+        question("a million bytes", 0, &filled(1_000_000), "(refused 18)"),
     ]
 }

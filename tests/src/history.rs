@@ -144,11 +144,11 @@ impl Seen {
 pub fn compare(
     one: &History, one_run: &Run, other: &History, other_run: &Run, seen: &mut Seen,
 ) -> Option<String> {
-    let one_printed = match printed_lines(one, one_run) {
+    let one_printed = match printed_lines(one.lines, one_run) {
         Ok(lines) => lines,
         Err(words) => return Some(format!("first text: {}", words)),
     };
-    let other_printed = match printed_lines(other, other_run) {
+    let other_printed = match printed_lines(other.lines, other_run) {
         Ok(lines) => lines,
         Err(words) => return Some(format!("second text: {}", words)),
     };
@@ -166,13 +166,13 @@ pub fn compare(
 
 /// "Each line prints one line", "Each printed line is closed by a line feed": with a line missing
 /// or too many, no call could be matched with its answer.
-fn printed_lines<'a>(history: &History, run: &'a Run) -> Result<Vec<&'a [u8]>, String> {
+pub fn printed_lines(wanted: usize, run: &Run) -> Result<Vec<&[u8]>, String> {
     let lines: Vec<&[u8]> = run.printout.split_inclusive(|&byte| byte == b'\n').collect();
     if !run.ended_well {
         return Err("the program did not end well".to_string());
     }
-    if lines.len() != history.lines {
-        return Err(format!("{} lines printed for {} lines", lines.len(), history.lines));
+    if lines.len() != wanted {
+        return Err(format!("{} lines printed for {} lines", lines.len(), wanted));
     }
     if lines.last().is_some_and(|line| !line.ends_with(b"\n")) {
         return Err("the last printed line has no line feed".to_string());
@@ -222,7 +222,7 @@ fn may_differ(chosen: u32, kept: &Kept, slot: &Outcome, twin: &Outcome) -> bool 
 }
 
 /// "the slots whose outcome bears its id"
-fn id_of(outcome: &Outcome) -> Option<u32> {
+pub fn id_of(outcome: &Outcome) -> Option<u32> {
     match *outcome {
         Outcome::Real { id, .. } | Outcome::Dummy { id } | Outcome::Idle { id } => Some(id),
         Outcome::Nobody => None,
@@ -230,7 +230,7 @@ fn id_of(outcome: &Outcome) -> Option<u32> {
 }
 
 /// Reads a printed slot. Only the exact bytes that such a slot prints are taken.
-fn slot(line: &[u8]) -> Option<Outcome> {
+pub fn slot(line: &[u8]) -> Option<Outcome> {
     let inside = line.strip_prefix(b"(slot (")?.strip_suffix(b"))\n")?;
     let words: Vec<&str> = std::str::from_utf8(inside).ok()?.split(' ').collect();
     let numbers: Vec<u32> = words[1..].iter().filter_map(|word| word.parse().ok()).collect();

@@ -9,3 +9,4 @@ pub mod random;
 pub mod scripts;
 pub mod seeds;
 pub mod shrink;
+pub mod steady;

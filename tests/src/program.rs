@@ -10,10 +10,21 @@ pub struct Run {
     pub ended_well: bool,
 }
 
+/// One run without arguments: the printout of a script.
+pub fn run(program: &str, text: &[u8]) -> Run {
+    run_with(program, &[], text)
+}
+
+/// One run that asks for S-14's figure (paper 02) for `n` ticks behind a script.
+pub fn run_sure(program: &str, n: u32, text: &[u8]) -> Run {
+    run_with(program, &["--sure", &n.to_string()], text)
+}
+
 /// One run. The text is written by a thread of its own: a program that prints before it has read
 /// everything would otherwise wait for us while we wait for it.
-pub fn run(program: &str, text: &[u8]) -> Run {
+fn run_with(program: &str, arguments: &[&str], text: &[u8]) -> Run {
     let mut child = Command::new(program)
+        .args(arguments)
         .stdin(Stdio::piped())
         .stdout(Stdio::piped())
         .spawn()
