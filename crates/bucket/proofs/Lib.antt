@@ -1,1 +1,2 @@
 pub mod BucketHeld
+pub mod WideSums

@@ -10,6 +10,7 @@ use Rattle.definitions.specs.Sizes.{ids}
 use Rattle.definitions.specs.Sample.{sample}
 use Rattle.definitions.specs.Draw.{sumBelow, drawnAt, drawnBy, draw}
 use Rattle.definitions.proofs.Laws.Sums.{sumBelow-same, sumBelow-zero}
+use Rattle.marks.specs.Marks.{markedNumber}
 use Rattle.marks.proofs.Bits.{marked-none}
 use Rattle.marks.proofs.IdSearch.{firstFrom-cong}
 use Rattle.draw.specs.Weights.{weightAt}
@@ -30,5 +31,5 @@ draw-cong generator f g same =
 
 -- a word without a mark weighs nothing
 pub weightless : (terms : List ℕ) → sumBelow ids (weightAt 0 terms) ≡ 0
-unfolding weightAt
+unfolding weightAt markedNumber
 weightless terms = sumBelow-zero ids (weightAt 0 terms) (λ id below. rw (marked-none id))

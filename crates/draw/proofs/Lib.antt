@@ -1,3 +1,2 @@
 pub mod Samples
 pub mod EqualWeights
-pub mod MarksWalk

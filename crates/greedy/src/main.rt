@@ -113,8 +113,7 @@ fn call_in(phase: u32, a: u32, b: u32, c: u32, d: u32) -> Call
 fn bought(counts: Counts) -> u64
     ensures { λ r. ⌜ r ≡ bought counts ⌝ }
 {
-    let filled = tables::wide(counts.ticks) * tables::wide(counts.rate);
-    (tables::wide(counts.level) + filled) / (SHARES as u64)
+    bucket::tokens(counts.level, counts.rate, counts.ticks)
 }
 
 // After an arrival that ended an offering.

@@ -1,3 +1,4 @@
 pub mod IdSearch
 pub mod Bits
 pub mod FirstMark
+pub mod MarksWalk

@@ -19,7 +19,7 @@ use Rattle.definitions.specs.Checks.{activeRate, rates}
 use Rattle.definitions.proofs.Laws.Sums.{sumBelow-plus, anyBelow-true}
 use Rattle.definitions.proofs.Limits.Turns.{contends-contender}
 use Rattle.draw.specs.declared.Sample.{Sample}
-use Rattle.marks.specs.Marks.{marked}
+use Rattle.marks.specs.Marks.{marked, markedNumber}
 use Rattle.marks.proofs.IdSearch.{anyBelow-cong}
 use Rattle.draw.specs.Weights.{weightAt}
 use Rattle.draw.specs.Samples.{SameSample, drawsTold, Undrawn}
@@ -92,7 +92,7 @@ module _ (c : Control) (t : Tables) (core : SoundCore c t) where
     any-agrees = anyBelow-cong ids (marked word) test agree
 
     weight-agrees : (id : ℕ) → id < ids → weightAt word (t .terms) id ≡ cond (test id) (clients id .rate) 0
-    unfolding weightAt clientAt
+    unfolding weightAt markedNumber clientAt
     weight-agrees id below =
         rw (agree id below, sym (rate-first (t .terms) id), client-own c t (core .shape) id below)
 

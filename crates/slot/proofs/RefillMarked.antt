@@ -14,7 +14,7 @@ use Rattle.definitions.proofs.Laws.Tests.{eqb-cases, and-both}
 use Rattle.marks.specs.Marks.{marked}
 use Rattle.marks.proofs.Bits.{marked-none}
 use Rattle.marks.proofs.FirstMark.{marked-first-lt, marked-first}
-use Rattle.draw.proofs.MarksWalk.{firstOf, RestOf}
+use Rattle.marks.proofs.MarksWalk.{firstOf, RestOf}
 use Rattle.tables.specs.Tables.{rateColumn, burstColumn, levelColumn, entry, written, field, rateAt, burstAt, levelAt}
 use Rattle.tables.proofs.Fields.{field-set-same, field-set-field, field-set-id}
 use Rattle.bucket.specs.Buckets.{Within}

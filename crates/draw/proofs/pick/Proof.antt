@@ -6,12 +6,13 @@ use borrow.Author.Needs.{needs}
 use Rattle.definitions.specs.Sizes.{ids}
 use Rattle.marks.specs.Marks.{marked}
 use Rattle.marks.proofs.IdSearch.{firstFrom-le}
-use Rattle.draw.proofs.MarksWalk.{Walked, Turn, walked-start, walked-none, turn-small, turn-rest, turn-drawn}
+use Rattle.marks.proofs.MarksWalk.{Walked, Turn, walked-start, walked-none, turn-small, turn-rest, turn-drawn}
+use Rattle.draw.specs.Weights.{ownRate, weightAt}
 use Rattle.draw.proofs.pick.Statement.{statement}
 use Rattle.draw.proofs.pick.Tie as tie
 
 abbrev Inv-loop : tie.InvT-loop
-Inv-loop word terms target limit left₀ reached₀ left reached = Walked word terms (2 ^ 32) left reached × (reached ≤ limit)
+Inv-loop word terms target limit left₀ reached₀ left reached = Walked word (ownRate terms) (2 ^ 32) left reached × (reached ≤ limit)
 
 abbrev μ-loop : tie.MeasureT-loop
 μ-loop word terms target limit left₀ reached₀ left reached = left
@@ -20,7 +21,7 @@ abbrev μ-loop : tie.MeasureT-loop
 turn : (c : tie.After-wide Inv-loop μ-loop)
     → let loop = c .before .before .before .before .loop in
     let args = c .before .before .before .before .before .args in
-    Turn (args .word) (args .terms .now) (2 ^ 32) (loop .left) (loop .reached)
+    Turn (args .word) (ownRate (args .terms .now)) (2 ^ 32) (loop .left) (loop .reached)
     (c .before .before .first .result) (c .wide .result)
 turn c = record {
   more = omega (arith, c .before .before .before .loop-test .taken);
@@ -32,7 +33,7 @@ turn c = record {
 
 loop-holds : tie.Need-loop-holds Inv-loop μ-loop
 unfolding ids
-loop-holds c = (walked-start (c .args .word) (c .args .terms .now) (2 ^ 32) (search needs), search needs)
+loop-holds c = (walked-start (c .args .word) (ownRate (c .args .terms .now)) (2 ^ 32) (search needs), search needs)
 
 first-requires : tie.Need-first-requires Inv-loop μ-loop
 first-requires c κs = search needs
@@ -55,6 +56,7 @@ unfolding ids
 add-reached c = omega (arith, turn-small (turn c))
 
 returns : tie.Need-returns Inv-loop μ-loop
+unfolding weightAt
 returns c = turn-drawn (turn (c .before)) _ (c .before .before .before .before .before .loop .inv .1) (c .if1 .taken)
 
 rest-requires : tie.Need-rest-requires Inv-loop μ-loop
@@ -68,7 +70,7 @@ loop-again c =
     (turn-rest (turn (c .before .before)) (c .rest .result) (c .rest .ensures .0) (loop-less c), c .before .if1 .left)
 
 returns-2 : tie.Need-returns-2 Inv-loop μ-loop
-unfolding ids
+unfolding ids weightAt
 returns-2 c = walked-none (c .before .loop .inv .0) _ (c .before .loop .inv .1) (c .loop-test .left)
 
 pub pick-spec : {M : Type 1} → statement M

@@ -6,12 +6,13 @@ use borrow.Author.Needs.{needs}
 use Rattle.definitions.specs.Sizes.{ids}
 use Rattle.marks.specs.Marks.{marked}
 use Rattle.marks.proofs.IdSearch.{firstFrom-le}
-use Rattle.draw.proofs.MarksWalk.{Walked, Turn, walked-start, walked-all, turn-small, turn-rest}
+use Rattle.marks.proofs.MarksWalk.{Walked, Turn, walked-start, walked-all, turn-small, turn-rest}
+use Rattle.draw.specs.Weights.{ownRate, weightAt}
 use Rattle.draw.proofs.total.Statement.{statement}
 use Rattle.draw.proofs.total.Tie as tie
 
 abbrev Inv-loop : tie.InvT-loop
-Inv-loop word terms left₀ sum₀ left sum = Walked word terms (2 ^ 32) left sum
+Inv-loop word terms left₀ sum₀ left sum = Walked word (ownRate terms) (2 ^ 32) left sum
 
 abbrev μ-loop : tie.MeasureT-loop
 μ-loop word terms left₀ sum₀ left sum = left
@@ -20,7 +21,7 @@ abbrev μ-loop : tie.MeasureT-loop
 turn : (c : tie.After-wide Inv-loop μ-loop)
     → let loop = c .before .before .before .before .loop in
     let args = c .before .before .before .before .before .args in
-    Turn (args .word) (args .terms .now) (2 ^ 32) (loop .left) (loop .sum)
+    Turn (args .word) (ownRate (args .terms .now)) (2 ^ 32) (loop .left) (loop .sum)
     (c .before .before .first .result) (c .wide .result)
 turn c = record {
   more = omega (arith, c .before .before .before .loop-test .taken);
@@ -32,7 +33,7 @@ turn c = record {
 
 loop-holds : tie.Need-loop-holds Inv-loop μ-loop
 unfolding ids
-loop-holds c = walked-start (c .args .word) (c .args .terms .now) (2 ^ 32) (search needs)
+loop-holds c = walked-start (c .args .word) (ownRate (c .args .terms .now)) (2 ^ 32) (search needs)
 
 first-requires : tie.Need-first-requires Inv-loop μ-loop
 first-requires c κs = search needs
@@ -64,6 +65,7 @@ loop-again : tie.Need-loop-again Inv-loop μ-loop
 loop-again c = turn-rest (turn (c .before)) (c .rest .result) (c .rest .ensures .0) (loop-less c)
 
 returns : tie.Need-returns Inv-loop μ-loop
+unfolding weightAt
 returns c = walked-all (c .before .loop .inv) (c .loop-test .left)
 
 pub total-spec : {M : Type 1} → statement M
