@@ -8,22 +8,20 @@ use mathlib.Core.List.{List}
 use lib.Dec.{leb}
 use lib.ListN.{length}
 use borrow.Author.Tests.{leb-true, leb-false, not-true, not-false}
-use Rattle.definitions.specs.declared.Answer.{Answer}
-use Rattle.grammar.specs.Printout.{printed}
 use Rattle.printer.specs.Appended.{Appended}
-use Rattle.printer.specs.Printed.{lineRoom, Printed}
+use Rattle.printer.specs.Printed.{lineRoom, LineWritten}
 
 module _ (before : List ℕ) (at : ℕ) {test : Bool} (asked : test ≡ leb (at + lineRoom) (length before)) where
   pub roomy : not test ≡ false → at + lineRoom ≤ length before
   roomy left = leb-true (at + lineRoom) (length before) (sym asked ∙ not-false test left)
 
-  pub unwritten : (answer : Answer) → not test ≡ true → Printed answer before at before at
-  unwritten answer taken =
+  pub unwritten : (line : List ℕ) → not test ≡ true → LineWritten line before at before at
+  unwritten line taken =
       let none = leb-false (at + lineRoom) (length before) (sym asked ∙ not-true test taken) in
       record { written = λ room. absurd (omega arith); untouched = λ little. (refl, refl) }
 
-  pub wrote : (answer : Answer) {after : List ℕ} {end : ℕ} → not test ≡ false → Appended (printed answer) before at after end
-      → Printed answer before at after end
-  wrote answer left a =
+  pub wrote : {line after : List ℕ} {end : ℕ} → not test ≡ false → Appended line before at after end
+      → LineWritten line before at after end
+  wrote left a =
       let room = roomy left in
       record { written = λ fits. a; untouched = λ little. absurd (omega arith) }

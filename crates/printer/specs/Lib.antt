@@ -1,3 +1,3 @@
--- What writing a text into lent bytes means, and then an answer's line.
+-- What writing a text into lent bytes means, and then a line.
 pub mod Appended
 pub mod Printed

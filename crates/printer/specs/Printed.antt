@@ -1,5 +1,5 @@
--- An answer's line that is written into bytes from a place on, which takes room for a line of any answer.
--- Where that room is not there nothing is written, so that a caller who sees to the room gets every line whole.
+-- A line that is written into bytes from a place on, which takes room for any line. Where that room is not there nothing is
+-- written, so that a caller who sees to the room gets every line whole.
 use Prim.Native.Nat.{ℕ, _+_, _≤_, _<_}
 use mathlib.Core.Path.{_≡_}
 use mathlib.Core.List.{List}
@@ -12,6 +12,10 @@ use Rattle.printer.specs.Appended.{Appended}
 abbrev pub lineRoom : ℕ
 lineRoom = 64
 
-pub record Printed (answer : Answer) (before : List ℕ) (at : ℕ) (after : List ℕ) (end : ℕ) : Type 0 where
-  pub written : at + lineRoom ≤ length before → Appended (printed answer) before at after end
+pub record LineWritten (line before : List ℕ) (at : ℕ) (after : List ℕ) (end : ℕ) : Type 0 where
+  pub written : at + lineRoom ≤ length before → Appended line before at after end
   pub untouched : length before < at + lineRoom → (end ≡ at) × (after ≡ before)
+
+-- the line of an answer
+abbrev pub Printed : Answer → List ℕ → ℕ → List ℕ → ℕ → Type 0
+Printed answer = LineWritten (printed answer)

@@ -1,4 +1,5 @@
-// Prints answers (paper 01, "Script and printout"): each as a line of text, into bytes that are lent, from a place on.
+// Prints answers (paper 01, "Script and printout"), and the figure of a forecast: each as a line of text, into bytes that are
+// lent, from a place on.
 use definitions::Answer;
 use definitions::Outcome;
 use definitions::Packet;
@@ -9,8 +10,9 @@ ghost use lib.Dec.{leb};
 ghost use lib.ListN.{length};
 ghost use Rattle.grammar.specs.Numerals.{decimal};
 ghost use Rattle.grammar.specs.Printout.{printed};
+ghost use Rattle.grammar.specs.Forecast.{sureLine};
 ghost use Rattle.printer.specs.Appended.{Appended};
-ghost use Rattle.printer.specs.Printed.{lineRoom, Printed};
+ghost use Rattle.printer.specs.Printed.{lineRoom, LineWritten, Printed};
 
 // The room that a line is given. No line of numbers of 32 bits is longer.
 const LINE_ROOM: usize = 64;
@@ -148,4 +150,15 @@ pub fn print(out: &mut [u8], at: usize, answer: Answer) -> usize
         Answer::Refused { number } => print_refused(out, at, number),
         Answer::Slot { outcome } => put_slot(out, at, outcome),
     }
+}
+
+// Writes the line of a number of ticks and a number of picks from a place on; places and room are those of `print_refused`.
+pub fn print_sure(out: &mut [u8], at: usize, ticks: u32, picks: u32) -> usize
+    ensures { λ r. ⌜ LineWritten (sureLine ticks picks) (now (out .entry)) at (now (out .exit)) r ⌝ }
+{
+    if !has_room(out.len(), at) {
+        return at;
+    }
+    let end = put_number(out, at, b"(sure ", ticks);
+    put_between(out, end, b" ", picks, b")\n")
 }

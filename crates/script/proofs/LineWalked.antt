@@ -17,7 +17,7 @@ use Rattle.grammar.specs.Bytes.{Unbroken}
 use Rattle.grammar.specs.Grammar.{parsed}
 use Rattle.grammar.specs.Printout.{printed, answered}
 use Rattle.printer.specs.Appended.{Appended}
-use Rattle.printer.specs.Printed.{lineRoom, Printed}
+use Rattle.printer.specs.Printed.{lineRoom, LineWritten, Printed}
 use Rattle.printer.proofs.Appending.{appended-front, appended-length}
 use Rattle.tables.specs.declared.Control.{Control}
 use Rattle.tables.specs.declared.Answered.{Answered}
@@ -44,11 +44,10 @@ module _ (text : List ℕ) (at : ℕ) (out : List ℕ) (written : ℕ) (c : Cont
   l : LineEnd text at end
   l = span-end text at span read (omega arith)
 
-  wrote : {answer : Answer} {new : List ℕ} {more : ℕ} → Printed answer out written new more
-      → Appended (printed answer) out written new more
+  wrote : {line new : List ℕ} {more : ℕ} → LineWritten line out written new more → Appended line out written new more
   wrote p = p .written room
 
-  further : {answer : Answer} {new : List ℕ} {more : ℕ} → Printed answer out written new more
+  further : {line new : List ℕ} {more : ℕ} → LineWritten line out written new more
       → (d : Control) (u : Tables) (next : ℕ) → Valid d u → span .next ≡ next → at < next → next ≤ length text
       → take more new ++ ahead (coreOf d u) text next ≡ take written out ++ ahead (coreOf c t) text at
       → ((upto : ℕ) → next ≤ upto → coreBehind (coreOf d u) text next upto ≡ coreBehind (coreOf c t) text at upto)
@@ -79,13 +78,13 @@ module _ (text : List ℕ) (at : ℕ) (out : List ℕ) (written : ℕ) (c : Cont
 
   module _ (feed : end < length text) where
     -- a closed line, by what it holds
-    closed : {new : List ℕ} {more : ℕ} {answer : Answer} → Printed answer out written new more
+    closed : {new : List ℕ} {more : ℕ} (answer : Answer) → Printed answer out written new more
         → (line : Line) → parsed (between text at end) ≡ line
         → (d : Control) (u : Tables) → Valid d u
         → answer ≡ answered (coreOf c t) line .answer
         → coreOf d u ≡ answered (coreOf c t) line .core
         → Further new more d u
-    closed {new} {more} p line held d u valid answer core =
+    closed {new} {more} given p line held d u valid answer core =
         let made = ap (λ (x : Line). answered (coreOf c t) x .core) held ∙ sym core in
         let next =
         closed-printed (coreOf c t) text at (take written out) (take more new) end (l .forth) feed (l .closed feed) (l .unbroken)
@@ -104,7 +103,7 @@ module _ (text : List ℕ) (at : ℕ) (out : List ℕ) (written : ℕ) (c : Cont
         → Printed (Refused n) out written new more
         → Further new more c t
     unfolding answered
-    walked-unread n valid held p = closed p (Unread n) held c t valid refl refl
+    walked-unread n valid held p = closed (Refused n) p (Unread n) held c t valid refl refl
 
     -- a line with a form
     pub walked-form : {new : List ℕ} {more : ℕ} (call : Call) → parsed (between text at end) ≡ Form call
@@ -112,4 +111,4 @@ module _ (text : List ℕ) (at : ℕ) (out : List ℕ) (written : ℕ) (c : Cont
         → Printed (r .answer) out written new more
         → Further new more (r .control) u
     unfolding answered
-    walked-form call held r u m p = closed p (Form call) held (r .control) u (m .valid) (m .answer) (m .core)
+    walked-form call held r u m p = closed (r .answer) p (Form call) held (r .control) u (m .valid) (m .answer) (m .core)

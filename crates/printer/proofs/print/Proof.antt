@@ -27,7 +27,7 @@ shown : (c : tie.Else1) {after : List ℕ} {end : ℕ} →
     → Printed (args .answer) (args .out .now) (args .at) after end
 shown c a =
     let args = start c .args in
-    wrote (args .out .now) (args .at) (c .before .has-room .ensures) (args .answer) (c .if1 .left) a
+    wrote (args .out .now) (args .at) (c .before .has-room .ensures) (c .if1 .left) a
 
 has-room-requires : tie.Need-has-room-requires
 has-room-requires c κs = search needs
@@ -35,7 +35,7 @@ has-room-requires c κs = search needs
 returns : tie.Need-returns
 returns c =
     let args = c .before .before .before .args in
-    unwritten (args .out .now) (args .at) (c .before .has-room .ensures) (args .answer) (c .if1 .taken)
+    unwritten (args .out .now) (args .at) (c .before .has-room .ensures) (printed (args .answer)) (c .if1 .taken)
 
 enum-told : tie.Need-enum-told
 enum-told c = search needs

@@ -26,7 +26,8 @@ returns : tie.Need-returns
 returns c =
     let asked = c .before in
     let args = asked .before .before .args in
-    unwritten (args .out .now) (args .at) (asked .has-room .ensures) (Refused (args .number)) (c .if1 .taken)
+    unwritten (args .out .now) (args .at) (asked .has-room .ensures) (printed (Refused (args .number)))
+    (c .if1 .taken)
 
 slice-aggregate-put-between : tie.Need-slice-aggregate-put-between
 slice-aggregate-put-between c = search needs
@@ -50,8 +51,8 @@ unfolding printed filled
 returns-2 c =
     let test = c .before .before .before .before .before .before in
     let start = test .before .before .before in
-    wrote (start .args .out .now) (start .args .at) (test .before .has-room .ensures) (Refused (start .args .number))
-    (test .if1 .left) (c .before .before .put-between .ensures)
+    wrote (start .args .out .now) (start .args .at) (test .before .has-room .ensures) (test .if1 .left)
+    (c .before .before .put-between .ensures)
 
 pub print-refused-spec : {M : Type 1} → statement M
 print-refused-spec =
