@@ -10,34 +10,28 @@ use Rattle.grammar.specs.Bytes.{textLimit}
 use Rattle.grammar.specs.Printout.{printout}
 use Rattle.tables.specs.declared.Control.{Control}
 use Rattle.tables.specs.Tables.{Tables}
-use Rattle.tables.specs.Invariant.{Valid}
 use Rattle.script.specs.declared.Progress.{Progress}
-use Rattle.script.specs.Pieces.{Start, Piece, Written, started, piece}
-use Rattle.script.proofs.PiecesPrinted.{start-place, pieces-printed}
+use Rattle.script.specs.Pieces.{Start, Piece}
+use Rattle.script.proofs.PiecesPrinted.{pieces-printed}
+use Rattle.script.proofs.PiecesReached.{Reached, reached-first, reached-more}
 use Rattle.slots.specs.Writing.{pieceRoom}
 
 pub record Counted (text out : List ℕ) (c : Control) (t : Tables) (at written total : ℕ) : Type 0 where
   pub bytes : List ℕ
-  pub sofar : Written text bytes at c t
+  pub reached : Reached text bytes c t at
   pub count : total ≡ length bytes
   pub room : pieceRoom ≡ length out
   pub fits : written ≤ length out
-  pub within : at ≤ length text
-  pub read : at < length text → length text ≤ textLimit
-  pub valid : Valid c t
   pub few : total ≤ pieceRoom * at + pieceRoom
 
 pub counted-first : {text out : List ℕ} {r : Progress} → Start text out r → pieceRoom ≡ length out → (t : Tables)
     → Counted text out (r .control) t (r .next) (r .written) (r .written)
 counted-first {out = out} {r} s room t = record {
   bytes = take (r .written) out;
-  sofar = started s (omega arith);
+  reached = reached-first s (omega arith) t;
   count = sym (length-take-le (r .written) out (s .fits));
   room = room;
   fits = s .fits;
-  within = start-place s .0;
-  read = start-place s .1;
-  valid = s .core t .1;
   few = omega (arith, s .fits);
 }
 
@@ -51,14 +45,14 @@ module _ {text out : List ℕ} {c : Control} {t : Tables} {at written total : �
       → at < length text
       → total + r .written ≤ pieceRoom * textLimit + pieceRoom
   unfolding textLimit
-  counted-fits p same inside = omega (arith, k .few, k .room, k .read inside, p .walked .fits)
+  counted-fits p same inside = omega (arith, k .few, k .room, k .reached .read inside, p .walked .fits)
 
   pub counted-more : {new : List ℕ} {r : Progress} {u : Tables} → Piece text at c t new r u → length new ≡ length out
       → at < length text
       → Counted text new (r .control) u (r .next) (r .written) (total + r .written)
   counted-more {new} {r} p same inside = record {
     bytes = k .bytes ++ take (r .written) new;
-    sofar = piece (k .sofar) p;
+    reached = reached-more (k .reached) p inside;
     count = omega (
       arith,
       k .count,
@@ -67,11 +61,8 @@ module _ {text out : List ℕ} {c : Control} {t : Tables} {at written total : �
     );
     room = k .room ∙ sym same;
     fits = p .walked .fits;
-    within = p .walked .within (k .within);
-    read = λ more. k .read inside;
-    valid = p .walked .valid;
     few = omega (arith, k .few, k .room, same, p .walked .fits, counted-on p same inside);
   }
 
   pub counted-all : length text ≤ at → total ≡ length (printout text)
-  counted-all past = k .count ∙ ap length (pieces-printed .whole text (k .bytes) at c t (k .sofar) past)
+  counted-all past = k .count ∙ ap length (pieces-printed .whole text (k .bytes) at c t (k .reached .sofar) past)

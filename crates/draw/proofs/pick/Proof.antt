@@ -12,7 +12,8 @@ use Rattle.draw.proofs.pick.Statement.{statement}
 use Rattle.draw.proofs.pick.Tie as tie
 
 abbrev Inv-loop : tie.InvT-loop
-Inv-loop word terms target limit left₀ reached₀ left reached = Walked word (ownRate terms) (2 ^ 32) left reached × (reached ≤ limit)
+Inv-loop word terms target limit left₀ reached₀ left reached =
+    Walked word (ownRate terms) (2 ^ 32) left reached × (reached ≤ limit)
 
 abbrev μ-loop : tie.MeasureT-loop
 μ-loop word terms target limit left₀ reached₀ left reached = left

@@ -41,7 +41,8 @@ returns : tie.Need-returns Inv-loop μ-loop
 returns c = counted-all (c .before .before .before .before .loop .inv .1) (c .if2 .taken)
 
 piece-requires : tie.Need-piece-requires Inv-loop μ-loop
-piece-requires c κs = c .before .before .before .before .before .before .before .before .before .before .loop .inv .1 .valid
+piece-requires c κs =
+    c .before .before .before .before .before .before .before .before .before .before .loop .inv .1 .reached .valid
 
 add-total : tie.Need-add-total Inv-loop μ-loop
 unfolding textLimit

@@ -1,0 +1,93 @@
+-- The line behind a script: what a line that is written at the start of a buffer leaves there, and which line it is. Assumes
+-- nothing.
+use Prim.Native.Nat.{ℕ, _+_, _≤_, _<_}
+use mathlib.Core.Path.{_≡_, refl, sym, ap, subst, _∙_}
+use mathlib.Core.Bool.{Bool, true, false, not}
+use mathlib.Core.List.{List, _++_, append-nil}
+use native.Mathlib.Omega.{arith}
+use lib.Dec.{leb}
+use lib.ListN.{length, take}
+use borrow.Author.Tests.{leb-false, lt-ltb, le-ltb, not-true}
+use Rattle.definitions.specs.declared.Answer.the-variants.{Refused}
+use Rattle.definitions.specs.State.{unopened}
+use Rattle.definitions.specs.Guarantee.{sure}
+use Rattle.grammar.specs.Bytes.{textLimit}
+use Rattle.grammar.specs.Printout.{printed, printout}
+use Rattle.grammar.specs.Forecast.{sureLine, forecast, forecastBehind}
+use Rattle.printer.specs.Printed.{lineRoom, LineWritten}
+use Rattle.printer.proofs.Appending.{appended-front, appended-length}
+use Rattle.tables.specs.declared.Control.{Control}
+use Rattle.tables.specs.Tables.{Tables}
+use Rattle.tables.specs.Meaning.{coreOf}
+use Rattle.script.specs.declared.Progress.{Progress}
+use Rattle.script.specs.Pieces.{Start}
+use Rattle.script.proofs.LinePrinted.{ahead-none}
+use Rattle.forecast.specs.Told.{CarriedOut, Told}
+
+-- ---- the line of a core
+
+module _ (c : Control) (t : Tables) (ticks : ℕ) where
+  pub line-unopened : c .opened ≡ false → printed (Refused 19) ≡ forecast (coreOf c t) ticks
+  unfolding coreOf forecast
+  line-unopened e = rw e
+
+  pub line-opened : c .opened ≡ true → {picks : ℕ} → picks ≡ sure (coreOf c t) ticks
+      → sureLine ticks picks ≡ forecast (coreOf c t) ticks
+  unfolding coreOf forecast
+  line-opened e given = rw (given, e)
+
+pub line-as : {line other before : List ℕ} {at : ℕ} {after : List ℕ} {end : ℕ} → line ≡ other
+    → LineWritten line before at after end → LineWritten other before at after end
+line-as {before = before} {at} {after} {end} e w = subst (λ (l : List ℕ). LineWritten l before at after end) e w
+
+-- ---- which line is told
+
+behind-long : (text : List ℕ) (ticks : ℕ) → textLimit < length text → forecastBehind text ticks ≡ printout text
+unfolding forecastBehind printout
+behind-long text ticks over = rw (forecastBehind, printout, lt-ltb textLimit (length text) over)
+
+behind-read : {text : List ℕ} {c : Control} {t : Tables} → CarriedOut text c t → (ticks : ℕ) → length text ≤ textLimit
+    → forecast (coreOf c t) ticks ≡ forecastBehind text ticks
+unfolding forecastBehind
+behind-read {text} carried ticks short =
+    rw (carried .core short, forecastBehind, le-ltb textLimit (length text) short)
+
+module _ (text : List ℕ) (ticks : ℕ) (before : List ℕ) (t : Tables) where
+  -- without room
+  pub told-bare : {test : Bool} → test ≡ leb (0 + lineRoom) (length before) → not test ≡ true
+      → Told text ticks before t before 0 t
+  told-bare {test} asked none =
+      let little = leb-false (0 + lineRoom) (length before) (sym asked ∙ not-true test none) in
+      record { told = λ room. absurd (omega arith); fits = omega arith; bare = λ less. (refl, refl, refl) }
+
+  module _ (room : lineRoom ≤ length before) where
+    -- a text that is too long: the start has written its line
+    pub told-long : {out : List ℕ} {r : Progress} (u : Tables) → length out ≡ length before → Start text out r
+        → textLimit < length text
+        → Told text ticks before t out (r .written) u
+    told-long {out} {r} u same s over = record {
+      told = λ fits.
+          sym (append-nil (take (r .written) out))
+          ∙ ap (λ (rest : List ℕ). take (r .written) out ++ rest) (sym (ahead-none unopened text (r .next) (omega (arith, end))))
+          ∙ s .printed (omega arith)
+          ∙ sym (behind-long text ticks over);
+      fits = s .fits;
+      bare = λ little. absurd (omega arith);
+    }
+      where
+        end : r .next ≡ length text
+        end = rw (lt-ltb textLimit (length text) over) at (s .next)
+
+    -- else the line of the core behind it
+    pub told-line : {out after : List ℕ} {end : ℕ} {c : Control} {u : Tables} → length out ≡ length before
+        → length text ≤ textLimit
+        → CarriedOut text c u
+        → LineWritten (forecast (coreOf c u) ticks) out 0 after end
+        → Told text ticks before t after end u
+    told-line same short carried w =
+        let a = w .written (omega arith) in
+        record {
+          told = λ fits. appended-front a ∙ behind-read carried ticks short;
+          fits = omega (arith, a .room, appended-length a);
+          bare = λ little. absurd (omega arith);
+        }
