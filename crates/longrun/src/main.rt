@@ -69,12 +69,12 @@ fn main() {
         usage();
         return;
     }
-    let first = tally::argument(1);
+    let first = arguments::number(1);
     let Word::Number { value: seed } = first else {
         usage();
         return;
     };
-    let second = tally::argument(2);
+    let second = arguments::number(2);
     let Word::Number { value: count } = second else {
         usage();
         return;

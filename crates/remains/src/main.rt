@@ -213,22 +213,22 @@ fn main() {
         usage();
         return;
     }
-    let first = tally::argument(1);
+    let first = arguments::number(1);
     let Word::Number { value: seed } = first else {
         usage();
         return;
     };
-    let second = tally::argument(2);
+    let second = arguments::number(2);
     let Word::Number { value: count } = second else {
         usage();
         return;
     };
-    let third = tally::argument(3);
+    let third = arguments::number(3);
     let Word::Number { value: number } = third else {
         usage();
         return;
     };
-    let fourth = tally::argument(4);
+    let fourth = arguments::number(4);
     let Word::Number { value: earlier } = fourth else {
         usage();
         return;

@@ -1,20 +1,38 @@
-// Reads a script from standard input and writes its printout. What is printed is decided in `script`.
+// Reads a script from standard input and writes its printout, or the forecast behind it. What is written is decided in `script`
+// and in `forecast`.
 use libc::EINTR;
+use libc::STDERR_FILENO;
 use libc::STDIN_FILENO;
 use libc::STDOUT_FILENO;
 use order::LINKS;
+use parser::Word;
 use script::Progress;
 use tables::STOCKS;
 use tables::STORE;
 use tables::TERMS;
 ghost use mathlib.Core.Path.{_≡_};
 ghost use lib.ListN.{length};
+ghost use Rattle.grammar.specs.Printout.{printout};
+ghost use Rattle.grammar.specs.Forecast.{forecastBehind};
 ghost use Rattle.script.specs.Pieces.{Start};
 ghost use Rattle.slots.specs.Reading.{Within};
 ghost use Rattle.slots.specs.Writing.{pieceRoom, HandedOn};
+ghost use Rattle.slots.specs.Requests.{requested};
 
 // How often a read is tried that a signal interrupts each time.
 const TRIES: u32 = 1000000;
+
+// The program's name alone; and with it the option and its number.
+const NO_ARGUMENTS: usize = 1;
+
+const OPTION: usize = 3;
+
+// What the arguments ask for.
+enum Request {
+    Printout,
+    Forecast { ticks: u32 },
+    Unknown,
+}
 
 // What reading gave: so many bytes, or a read that failed.
 enum Reading {
@@ -78,7 +96,7 @@ fn write_pieces(
     links: &mut [u32; LINKS],
 ) -> Writing
     requires { ⌜ Start (now text) (now out) first × (pieceRoom ≡ length (now out)) ⌝ }
-    ensures { λ r. ⌜ HandedOn r (now (text .entry)) ⌝ }
+    ensures { λ r. ⌜ HandedOn r (printout (now (text .entry))) ⌝ }
 {
     let mut control = first.control;
     let mut at = first.next;
@@ -109,7 +127,7 @@ fn write_pieces(
 
 // Writes the printout of a text, on tables of its own.
 fn write_printout(text: &[u8]) -> Writing
-    ensures { λ r. ⌜ HandedOn r (now (text .entry)) ⌝ }
+    ensures { λ r. ⌜ HandedOn r (printout (now (text .entry))) ⌝ }
 {
     let mut terms: [u32; TERMS] = [0; TERMS];
     let mut stocks: [u32; STOCKS] = [0; STOCKS];
@@ -130,16 +148,74 @@ fn write_printout(text: &[u8]) -> Writing
     )
 }
 
+// Writes the forecast behind a text, on tables of its own.
+fn write_forecast(text: &[u8], ticks: u32) -> Writing
+    ensures { λ r. ⌜ HandedOn r (forecastBehind (now (text .entry)) ticks) ⌝ }
+{
+    let mut terms: [u32; TERMS] = [0; TERMS];
+    let mut stocks: [u32; STOCKS] = [0; STOCKS];
+    let mut handles: [u32; STORE] = [0; STORE];
+    let mut lengths: [u32; STORE] = [0; STORE];
+    let mut links: [u32; LINKS] = [0; LINKS];
+    let mut out = io::buffer();
+    let written = forecast::forecast(
+        text,
+        ticks,
+        &mut out,
+        &mut terms,
+        &mut stocks,
+        &mut handles,
+        &mut lengths,
+        &mut links,
+    );
+    if io::write_all(STDOUT_FILENO, &out[..written]) {
+        return Writing::Bytes(written);
+    }
+    Writing::Failed
+}
+
+// Writes what is asked for.
+fn write_requested(text: &[u8], request: Request) -> Writing
+    ensures { λ r. ⌜ HandedOn r (requested request (now (text .entry))) ⌝ }
+{
+    match request {
+        Request::Printout => write_printout(text),
+        Request::Forecast { ticks } => write_forecast(text, ticks),
+        Request::Unknown => Writing::Bytes(0),
+    }
+}
+
+// What the arguments ask for: the printout, where there is none.
+fn read_arguments() -> Request {
+    let count = os::arg_count();
+    if count <= NO_ARGUMENTS {
+        return Request::Printout;
+    }
+    if count != OPTION || !arguments::is(1, b"--sure") {
+        return Request::Unknown;
+    }
+    let number = arguments::number(2);
+    let Word::Number { value } = number else {
+        return Request::Unknown;
+    };
+    Request::Forecast { ticks: value }
+}
+
 // The room for the text is more than the longest that is read, so that a longer one is seen to be longer. A program has no exit
 // status of its own to give; what cannot be read or written is told on standard error.
 fn main() {
+    let request = read_arguments();
+    if let Request::Unknown = request {
+        io::write_all(STDERR_FILENO, b"usage: slots [--sure N]\n");
+        return;
+    }
     let mut text = io::large_buffer();
     let got = read_text(&mut text);
     let Reading::Bytes(length) = got else {
         os::fail(b"slots: standard input");
         return;
     };
-    let put = write_printout(&text[..length]);
+    let put = write_requested(&text[..length], request);
     if let Writing::Failed = put {
         os::fail(b"slots: standard output");
     }

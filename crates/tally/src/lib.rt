@@ -1,15 +1,11 @@
-// What the programs of long runs share: the arguments that they are given, and the line that they print after each block.
+// What the programs of long runs share: the line that they print after each block.
 use libc::STDOUT_FILENO;
-use parser::Word;
 ghost use mathlib.Core.Path.{_≡_};
 ghost use Prim.Native.Nat.{_*_};
 ghost use Rattle.runs.specs.LongRun.{block};
 
 // How many calls a block has.
 pub const BLOCK: u32 = 1000000;
-
-// More than the digits of any number that is taken.
-const ROOM: usize = 16;
 
 pub fn calls_in(blocks: u32) -> u64
     ensures { λ r. ⌜ r ≡ blocks * block ⌝ }
@@ -33,11 +29,4 @@ pub fn print_line(blocks: u32, check: u32, failed: &[u8]) -> bool {
     }
     os::fail(failed);
     false
-}
-
-// The number that an argument is.
-pub fn argument(i: usize) -> Word {
-    let mut room = [0u8; ROOM];
-    let length = os::arg(i, &mut room);
-    parser::number(&room[..length])
 }
