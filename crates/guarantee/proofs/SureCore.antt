@@ -11,8 +11,8 @@ use Rattle.definitions.specs.Tick.{anyBelow}
 use Rattle.definitions.specs.State.{Core, unopened, running}
 use Rattle.definitions.specs.History.{clientOf, stockOf}
 use Rattle.definitions.specs.Guarantee.{privateActive, overIndifferent, backlog, demand, sure}
-use Rattle.definitions.proofs.Laws.Tests.{true-false}
-use Rattle.definitions.proofs.Laws.Sums.{sumBelow-plus, anyBelow-true}
+use Rattle.definitions.proofs.Laws.Sums.{sumBelow-plus}
+use Rattle.definitions.proofs.Stretches.Guarantee.{unopened-private}
 use Rattle.marks.specs.Marks.{marked, markedNumber}
 use Rattle.marks.proofs.IdSearch.{anyBelow-cong}
 use Rattle.tables.specs.declared.Control.{Control}
@@ -34,14 +34,6 @@ sure-left : (core : Core) (n : ℕ) → privateActive core ≡ true → sure cor
 unfolding sure
 sure-left core n e = rw e
 
-unopened-none : privateActive unopened ≡ false
-unfolding privateActive clientOf
-unopened-none = go (anyBelow ids (λ id. false)) refl
-  where
-    go : (b : Bool) → anyBelow ids (λ id. false) ≡ b → b ≡ false
-    go true e = true-false (anyBelow-true ids (λ id. false) e .2) refl
-    go false e = refl
-
 cond-plus : (b : Bool) (x y : ℕ) → cond b (x + y) 0 ≡ cond b x 0 + cond b y 0
 cond-plus true x y = refl
 cond-plus false x y = refl
@@ -49,7 +41,7 @@ cond-plus false x y = refl
 module _ (c : Control) (t : Tables) where
   pub sure-unopened : (n : ℕ) → c .opened ≡ false → 0 ≡ sure (coreOf c t) n
   unfolding coreOf
-  sure-unopened n e = sym (rw e (sure-none unopened n unopened-none))
+  sure-unopened n e = sym (rw e (sure-none unopened n unopened-private))
 
   module _ (valid : Valid c t) (opened : c .opened ≡ true) where
     shape : Shape c t
