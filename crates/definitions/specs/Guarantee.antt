@@ -3,7 +3,7 @@
 -- there at the start minus the sum, over indifferent clients, of (level at the start + n × rate) / 1024 rounded down, provided one
 -- private client is active." The field calls it the leftover service of the lower priority. The core has one side, and neither
 -- hand-overs nor timetables.
-use Prim.Native.Nat.{ℕ, _+_, _-_, _≤_}
+use Prim.Native.Nat.{ℕ, suc, _+_, _-_, _≤_}
 use mathlib.Core.Path.{_≡_}
 use mathlib.Core.Bool.{Bool, true, false, cond, not, _&&_}
 use lib.Dec.{T}
@@ -73,6 +73,15 @@ pub record Guarantee : Type 0 where
       → T (privateActive core)
       → T (steady (stretch core calls))
       → ticks (stretch core calls) ≤ picks (stretch core calls) + demand core (ticks (stretch core calls))
+  -- What the last tick brings comes behind its pick, and buys no slot: of the levels a tick less may be reckoned with. The
+  -- request does not, and neither does the figure.
+  pub sharper : (core : Core) (calls : History)
+      → CoreLimits core
+      → T (privateActive core)
+      → T (steady (stretch core calls))
+      → (m : ℕ)
+      → ticks (stretch core calls) ≡ suc m
+      → suc m ≤ picks (stretch core calls) + demand core m
   -- So with the figure, which claims nothing where no private client is active. It may be lower for more ticks; what is sure
   -- within m ticks is so within more.
   pub figure : (core : Core) (calls : History)

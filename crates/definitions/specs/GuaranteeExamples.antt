@@ -64,9 +64,11 @@ unfoldable pub pairOffers : History
 pairOffers = ticking 7 start then arrival 3 1 64 then arrival 7 1 64
 
 pub record GuaranteeThere : Type 0 where
-  -- the figure for one tick more may be lower: both buckets have a token again with the seventh
+  -- The figure for one tick more may be lower: both buckets have a token again with the seventh. By `sharper` all seven are sure,
+  -- since nothing is bought with the six before it.
   pub six : sure paired 6 ≡ 6
   pub seven : sure paired 7 ≡ 5
+  pub sharpened : demand paired 6 ≡ 0
   -- over nine ticks, of which two send what they offered
   pub nine : Exactly paired (ticking 2 pairOffers) 9 7
   -- and where both have a packet waiting at the start

@@ -240,20 +240,69 @@ slots-shared core (h then c) known active calm =
       oneIf-plus (isTick c) (backlog (step b c .core)),
     )
 
+-- what is accepted is no more than what was bought, client by client
+accepted-bought : (core : Core) (calls : History) → T (steady (stretch core calls))
+    → overIndifferent core (λ id. acceptances id (stretch core calls))
+    ≤ overIndifferent core (λ id. bought (clientOf core id) (ticks (stretch core calls)))
+unfolding Bound
+accepted-bought core calls calm =
+    let t = stretch core calls in
+    over-least core (λ id. acceptances id t) (λ id. bought (clientOf core id) (ticks t))
+    (λ id indifferently. bound core id calls indifferently (steady-undisturbed id t calm))
+
 guaranteed : (core : Core) (calls : History)
     → CoreLimits core
     → T (privateActive core)
     → T (steady (stretch core calls))
     → ticks (stretch core calls) ≤ picks (stretch core calls) + demand core (ticks (stretch core calls))
-unfolding SlotsShared Bound demand
+unfolding SlotsShared demand
 guaranteed core calls known active calm =
-    let t = stretch core calls in
+    omega (arith, slots-shared core calls known active calm, accepted-bought core calls calm)
+
+-- At a tick one packet goes or a pick is made, so what was accepted before it is what counts.
+at-tick : (core : Core) (h : History)
+    → CoreLimits core
+    → T (privateActive core)
+    → T (steady (stretch core h))
+    → suc (ticks (stretch core h))
+    ≤ oneIf (isPrivatePick (pickOf (behind core h))) (picks (stretch core h)) + demand core (ticks (stretch core h))
+unfolding SlotsShared demand
+at-tick core h known active calm =
+    let b = behind core h in
+    let kinds : (id : ℕ) → clientOf b id .kind ≡ clientOf core id .kind = λ id. stretch-kind core id h calm in
     omega (
       arith,
-      slots-shared core calls known active calm,
-      over-least core (λ id. acceptances id t) (λ id. bought (clientOf core id) (ticks t))
-          (λ id indifferently. bound core id calls indifferently (steady-undisturbed id t calm)),
+      slots-shared core h known active calm,
+      accepted-bought core h calm,
+      tick-shared b (behind-limits core known h) (private-stays core b kinds active),
+      oneIf-plus (isPrivatePick (pickOf b)) (picks (stretch core h)),
+      oneIf-plus (isPrivatePick (pickOf b)) (backlog b),
     )
+
+-- and no call behind the last tick counts
+sharpened : (core : Core) (calls : History)
+    → CoreLimits core
+    → T (privateActive core)
+    → T (steady (stretch core calls))
+    → (m : ℕ)
+    → ticks (stretch core calls) ≡ suc m
+    → suc m ≤ picks (stretch core calls) + demand core m
+unfolding picks ticks traceOf dealingAt answerAt
+sharpened core start known active calm m e = absurd (omega arith)
+sharpened core (h then c) known active calm m e = go (isTick c) (sharpened core h known active before m) e
+  where
+    before : T (steady (stretch core h))
+    before = steady-before core h c calm .0
+
+    go : (b : Bool)
+        → (ticks (stretch core h) ≡ suc m → suc m ≤ picks (stretch core h) + demand core m)
+        → oneIf b (ticks (stretch core h)) ≡ suc m
+        → suc m ≤ oneIf (b && isPrivatePick (pickOf (behind core h))) (picks (stretch core h)) + demand core m
+    go true sofar e =
+        subst (λ (k : ℕ). suc k ≤ oneIf (isPrivatePick (pickOf (behind core h))) (picks (stretch core h)) + demand core k)
+        (omega (arith, e))
+        (at-tick core h known active before)
+    go false sofar e = sofar e
 
 -- the figure for as many ticks as there are
 figured : (core : Core) (calls : History)
@@ -306,6 +355,7 @@ pub guarantee : Guarantee
 unfolding Limits
 guarantee = record {
   anywhere = guaranteed;
+  sharper = sharpened;
   figure = figured-within;
   reached = λ h calls. figured-within (after scheduler h) calls (limits h);
 }

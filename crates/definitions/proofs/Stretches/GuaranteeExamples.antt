@@ -20,6 +20,7 @@ unfolding computed
 guarantee-there = record {
   six = refl;
   seven = refl;
+  sharpened = refl;
   nine = record { active = tt; calm = tt; ticked = refl; claimed = refl; got = refl };
   waiting = record { active = tt; calm = tt; ticked = refl; claimed = refl; got = refl };
 }
