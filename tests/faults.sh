@@ -2,12 +2,12 @@
 # Shows that the tests can fail: builds the second program with each fault of paper 01's list, with the plain remainder that S-1 of
 # paper 02 does away with, and with two wrong figures for S-14, and runs the tests on it.
 #   tests/faults.sh BUILD    in the root of the repository, after the build of tests/run
-# `compare` and the long run must catch 1 to 6, `pairs` the first four (the others cannot be seen by pairs, see
-# src/pairs.rs), `stretches` 1 to 6 but 5b (which needs longer queues than fit a stretch). What a greedy client gets is wrong with 5
-# alone: the other faults take no token from a client that meets no 14. The wrong figures, 7 and 7b, are in no printout: of these tests
-# `sure` alone sees them, and by the picks alone too, which have to be fewer than such a figure. It sees 3 to 5b as well, since packets and levels
-# are in the figure, but not by the picks: these are no fewer than those programs themselves are sure of. Who is drawn (1, 2 and 6)
-# is not in the figure.
+# `compare` and the long run must catch 1 to 6, `pairs` the first four (the others cannot be seen by pairs, see src/pairs.rs),
+# `stretches` 1 to 6 but 5b (which needs longer queues than fit a stretch). What a greedy client gets is wrong with 5 alone: the
+# other faults take no token from a client that meets no 14. The wrong figures, 7 and 7b, are in no printout: of these tests
+# `sure` alone sees them, and by the picks alone too, which have to be fewer than such a figure. It sees 3 to 5b as well, since
+# packets and levels are in the figure, but not by the picks: these are no fewer than those programs themselves are sure of. Who
+# is drawn (1, 2 and 6) is not in the figure.
 # Prints a line for each; the printouts stay in BUILD/fault-N.
 build=$1 passed=0 failed=0
 

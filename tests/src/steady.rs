@@ -61,12 +61,12 @@ impl Stretch {
     /// Whether this is a stretch as S-14 has it, and short enough to be read at all.
     pub fn is_steady(&self) -> bool {
         let mut core = self.start();
-        let mut refused = core.opened.is_some() && self.text().len() <= LONGEST;
+        let mut steady = core.opened.is_some() && self.text().len() <= LONGEST;
         for (_, line) in self.lines.iter().filter(|(part, _)| *part == Part::Steady) {
             let accepted = perform(&mut core, line) == Some(Answer::Accepted);
-            refused &= !(accepted && is_settings(line));
+            steady &= !(accepted && is_settings(line));
         }
-        refused
+        steady
     }
 }
 

@@ -92,8 +92,8 @@ impl Tally {
 fn demand(start: &Core, n: u32) -> u64 {
     let clients = start.opened.iter().flat_map(|opened| opened.clients.iter().flatten());
     let indifferent = clients.filter(|client| client.kind == INDIFFERENT);
-    let asked = |rate: u32, level: u32| (u64::from(level) + u64::from(n) * u64::from(rate)) / 1024;
-    indifferent.map(|client| client.queue.len() as u64 + asked(client.rate, client.level)).sum()
+    let bought = |rate: u32, level: u32| (u64::from(level) + u64::from(n) * u64::from(rate)) / 1024;
+    indifferent.map(|client| client.queue.len() as u64 + bought(client.rate, client.level)).sum()
 }
 
 /// How many ticks a script's figure is asked for: few, numbers round multiples of 1024, where a

@@ -1,8 +1,8 @@
--- What the private side is sure to get (paper 02, S-14): "Over n ticks without open, hand-over, join, change, leave or change of
--- type by timetable, on one side of the box, private clients together are picked at least n minus the indifferent packets waiting
--- there at the start minus the sum, over indifferent clients, of (level at the start + n × rate) / 1024 rounded down, provided one
--- private client is active." The field calls it the leftover service of the lower priority. The core has one side, and neither
--- hand-overs nor timetables.
+-- What the private side is sure to get (paper 02, S-14): "Over n ticks without open, hand-over, join, change, leave or change
+-- of type by timetable, on one side of the box, private clients together are picked at least n minus the indifferent packets
+-- waiting there at the start minus the sum, over indifferent clients, of (level at the start + n × rate) / 1024 rounded down,
+-- provided one private client is active." The field calls it the leftover service of the lower priority. The core has one side,
+-- and neither hand-overs nor timetables.
 use Prim.Native.Nat.{ℕ, suc, _+_, _-_, _≤_}
 use mathlib.Core.Path.{_≡_}
 use mathlib.Core.Bool.{Bool, true, false, cond, not, _&&_}
@@ -73,8 +73,8 @@ pub record Guarantee : Type 0 where
       → T (privateActive core)
       → T (steady (stretch core calls))
       → ticks (stretch core calls) ≤ picks (stretch core calls) + demand core (ticks (stretch core calls))
-  -- What the last tick brings comes behind its pick, and buys no slot: of the levels a tick less may be reckoned with. The
-  -- request does not, and neither does the figure.
+  -- What the last tick adds to a bucket comes behind its pick and buys no slot: so n − 1 may stand for n in what is bought.
+  -- Neither the request nor the figure does so.
   pub sharper : (core : Core) (calls : History)
       → CoreLimits core
       → T (privateActive core)

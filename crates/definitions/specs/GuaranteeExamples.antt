@@ -12,6 +12,7 @@ use Rattle.definitions.specs.Stock.{bare}
 use Rattle.definitions.specs.State.{Core, running, put}
 use Rattle.definitions.specs.Cases.{arrival}
 use Rattle.definitions.specs.History.{History, start, _then_, after, scheduler}
+use Rattle.definitions.specs.Limits.{CoreLimits}
 use Rattle.definitions.specs.Stretch.{stretch, behind, ticks}
 use Rattle.definitions.specs.Guarantee.{steady, picks, privateActive, demand, sure}
 use Rattle.definitions.specs.GreedyExamples.{offer, ticking, joined}
@@ -36,8 +37,10 @@ taking zero = start
 taking (suc zero) = start then offer then Tick
 taking (suc (suc n)) = taking n then Tick then offer then Tick
 
--- some calls from a core on are a stretch as the claim speaks of, of so many ticks, in which so many picks were sure and were made
+-- Some calls from a core on are a stretch as the claim speaks of, of so many ticks, in which so many picks were sure and so many
+-- made.
 pub record Exactly (core : Core) (calls : History) (n picked : ℕ) : Type 0 where
+  pub limited : CoreLimits core
   pub active : T (privateActive core)
   pub calm : T (steady (stretch core calls))
   pub ticked : ticks (stretch core calls) ≡ n

@@ -1,6 +1,6 @@
 -- The calls behind a run are a stretch of the definitions, from the core that the tables of the run mean; so the bound, S-10 and
 -- S-14 hold of what the code gave. That the core is within its limits is so of every run. Assumes nothing.
-use Prim.Native.Nat.{ℕ, _+_, _≤_}
+use Prim.Native.Nat.{ℕ, suc, _+_, _≤_}
 use mathlib.Core.Path.{_≡_, subst⁻¹}
 use lib.Dec.{T}
 use Rattle.definitions.specs.Client.{isIndifferent}
@@ -50,6 +50,9 @@ code-stretch = record {
   guarantee = λ run calls active.
       of-calls (λ t. T (steady t) → ticks t ≤ picks t + demand (coreAfter run) (ticks t)) calls
       (λ history. guaranteed .anywhere (coreAfter run) history (run-limits .limits run) active);
+  sharper = λ run calls active.
+      of-calls (λ t. T (steady t) → (m : ℕ) → ticks t ≡ suc m → suc m ≤ picks t + demand (coreAfter run) m) calls
+      (λ history. guaranteed .sharper (coreAfter run) history (run-limits .limits run) active);
   figure = λ run calls.
       of-calls (λ t. T (steady t) → (m : ℕ) → m ≤ ticks t → sure (coreAfter run) m ≤ picks t) calls
       (λ history. guaranteed .figure (coreAfter run) history (run-limits .limits run));

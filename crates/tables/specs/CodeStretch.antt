@@ -2,7 +2,7 @@
 -- bound of paper 01 and S-10 of paper 02, and what the private side is sure to get, S-14. What is accepted, refused and ticked is
 -- read off the answers that the code gave; whom a slot picks, and the clients and what waits at the start, off the core that the
 -- tables mean.
-use Prim.Native.Nat.{ℕ, _+_, _≤_}
+use Prim.Native.Nat.{ℕ, suc, _+_, _≤_}
 use mathlib.Core.Path.{_≡_}
 use lib.Dec.{T}
 use Rattle.definitions.specs.Client.{isIndifferent}
@@ -34,6 +34,14 @@ pub record CodeStretch : Type 0 where
       → T (privateActive (coreAfter run))
       → T (steady t)
       → ticks t ≤ picks t + demand (coreAfter run) (ticks t)
+  -- and with a tick less in what is bought
+  pub sharper : (run : Run) {t : Trace} {c : Control} {u : Tables}
+      → CallsFrom Meets (run .control) (run .tables) t c u
+      → T (privateActive (coreAfter run))
+      → T (steady t)
+      → (m : ℕ)
+      → ticks t ≡ suc m
+      → suc m ≤ picks t + demand (coreAfter run) m
   -- so at least the figure for any number of ticks up to those, private client or not
   pub figure : (run : Run) {t : Trace} {c : Control} {u : Tables}
       → CallsFrom Meets (run .control) (run .tables) t c u

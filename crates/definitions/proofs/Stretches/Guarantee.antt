@@ -1,6 +1,7 @@
 -- The private side gets what it is sure of. While a private client is active every slot goes by rule 1 or by rule 2, and rule 1
 -- sends a packet that waited: so the slots are shared out, which is one equation. What is accepted is bounded client by client
 -- (Bound), and whoever rule 1 picks has a packet, since the order of acceptance has just those that wait (Limits/Turns).
+-- Assumes nothing.
 use Prim.Native.Nat.{ℕ, suc, _+_, _-_, _≤_, _<_}
 use mathlib.Core.Path.{_≡_, refl, sym, ap, subst, fun-ext, _∙_}
 use mathlib.Core.Bool.{Bool, true, false, cond, not, _&&_}

@@ -297,6 +297,7 @@ unfolding GuaranteeBest
 guarantee-best n =
     let t = taken n in
     record {
+      limited = begun n .alone .limited;
       active = begun n .alone .active;
       calm = t .calm;
       ticked = t .ticks;
