@@ -1,5 +1,6 @@
 // Reads a script from standard input and writes its printout, or the forecast behind it. What is written is decided in `script`
 // and in `forecast`.
+use arguments::ARGUMENT;
 use libc::EINTR;
 use libc::STDERR_FILENO;
 use libc::STDIN_FILENO;
@@ -17,7 +18,7 @@ ghost use Rattle.grammar.specs.Forecast.{forecastBehind};
 ghost use Rattle.script.specs.Pieces.{Start};
 ghost use Rattle.slots.specs.Reading.{Within};
 ghost use Rattle.slots.specs.Writing.{pieceRoom, HandedOn};
-ghost use Rattle.slots.specs.Requests.{requested};
+ghost use Rattle.slots.specs.Requests.{Asks, requested};
 
 // How often a read is tried that a signal interrupts each time.
 const TRIES: u32 = 1000000;
@@ -185,20 +186,33 @@ fn write_requested(text: &[u8], request: Request) -> Writing
     }
 }
 
-// What the arguments ask for: the printout, where there is none.
-fn read_arguments() -> Request {
-    let count = os::arg_count();
+// What the arguments ask for, of which there are so many, the program's name among them.
+fn request_of(count: usize, option: &[u8], number: &[u8]) -> Request
+    ensures { λ r. ⌜ Asks count (now (option .entry)) (now (number .entry)) r ⌝ }
+{
     if count <= NO_ARGUMENTS {
         return Request::Printout;
     }
-    if count != OPTION || !arguments::is(1, b"--sure") {
+    if count != OPTION {
         return Request::Unknown;
     }
-    let number = arguments::number(2);
-    let Word::Number { value } = number else {
+    if !check::same(option, b"--sure") {
+        return Request::Unknown;
+    }
+    let word = parser::number(number);
+    let Word::Number { value } = word else {
         return Request::Unknown;
     };
     Request::Forecast { ticks: value }
+}
+
+// No contract can say what the arguments are.
+fn read_arguments() -> Request {
+    let mut option = [0u8; ARGUMENT];
+    let mut number = [0u8; ARGUMENT];
+    let first = arguments::read(1, &mut option);
+    let second = arguments::read(2, &mut number);
+    request_of(os::arg_count(), &option[..first], &number[..second])
 }
 
 // The room for the text is more than the longest that is read, so that a longer one is seen to be longer. A program has no exit
