@@ -27,6 +27,8 @@ pub mod Stretch
 pub mod Bound
 pub mod Greedy
 pub mod Guarantee
+pub mod FairRates
+pub mod Fairness
 pub mod Evenness
 pub mod Cases
 pub mod GreedyExamples

@@ -8,5 +8,6 @@ pub mod RoundTrip
 pub mod Printout
 pub mod Forecast
 pub mod Lines
+pub mod FairSheet
 pub mod Sheet
 pub mod Examples
