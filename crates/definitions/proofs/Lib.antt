@@ -16,5 +16,6 @@ pub mod Fits
 pub mod Bound
 pub mod Sameness
 pub mod Stretches
+pub mod Fairness
 -- the versions that have to break the contract
 pub mod WrongVersions

@@ -46,12 +46,16 @@ fairRates threshold demands = ratesAt level (threshold - cutSum level demands) d
     level : ℕ
     level = fairLevel threshold demands
 
--- "ids above 63 or not rising, a demand out of range": each id is at least a lowest one, and there is one to a demand
+-- "ids above 63 or not rising, a demand out of range": an id is at least the lowest that still rises
+unfoldable pub entryFits : ℕ → ℕ → ℕ → Bool
+entryFits lowest id demand = within 1 shares demand && (leb lowest id && ltb id ids)
+
+-- "listed by rising id", one id to a demand
 unfoldable pub listedFrom : ℕ → List ℕ → List ℕ → Bool
 listedFrom lowest [] [] = true
 listedFrom lowest [] (d ∷ ds) = false
 listedFrom lowest (i ∷ is) [] = false
-listedFrom lowest (i ∷ is) (d ∷ ds) = (leb lowest i && ltb i ids) && (within 1 shares d && listedFrom (suc i) is ds)
+listedFrom lowest (i ∷ is) (d ∷ ds) = entryFits lowest i d && listedFrom (suc i) is ds
 
 -- "22, the only check, for a threshold outside 1..1024, a list over 64, ids above 63 or not rising, a demand out of range, or
 -- more demands than shares in the threshold"

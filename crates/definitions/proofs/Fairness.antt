@@ -1,0 +1,2 @@
+-- The fair rates of S-8: the level, the rates at a level, and what is claimed of them.
+pub mod Level
