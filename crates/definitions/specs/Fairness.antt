@@ -1,7 +1,7 @@
--- What is claimed of the fair rates (paper 02, S-8), each over every list that is accepted. "Proved: no demand is exceeded; the
+-- What is claimed of the fair rates (paper 02, S-8), over every list that is accepted. "Proved: no demand is exceeded; the
 -- threshold is used up unless all demands are met; and whoever got less than demanded has at most one share less than anyone
--- else." And beyond the request: every demand gets a share, a larger threshold takes from nobody, and who demands more gets no
--- less.
+-- else." And beyond the request: these, with the order by rising id, leave no choice; every demand gets a share; a larger
+-- threshold takes from nobody; and who demands more gets no less.
 use Prim.Native.Nat.{ℕ, _+_, _≤_, _<_}
 use mathlib.Core.Path.{_≡_}
 use mathlib.Core.Logic.{_⊎_}
@@ -10,64 +10,40 @@ use lib.Dec.{T}
 use lib.ListN.{length, getD, set}
 use Rattle.definitions.specs.FairRates.{fairRates, acceptable}
 
--- the k-th of some demands, and its rate
-abbrev pub demandAt : List ℕ → ℕ → ℕ
-demandAt demands k = getD demands k 0
-
-abbrev pub rateAt : ℕ → List ℕ → ℕ → ℕ
-rateAt threshold demands k = getD (fairRates threshold demands) k 0
+-- the k-th number of a list of demands, or of rates
+abbrev pub at : List ℕ → ℕ → ℕ
+at numbers k = getD numbers k 0
 
 unfoldable pub sum : List ℕ → ℕ
 sum [] = 0
 sum (n ∷ ns) = n + sum ns
 
--- one rate to a demand
-unfoldable pub OneEach : Type 0
-OneEach =
-    (threshold : ℕ) (ids demands : List ℕ)
-    → T (acceptable threshold ids demands)
-    → length (fairRates threshold demands) ≡ length demands
+-- when rates for demands are fair, whoever found them
+pub record Fair (threshold : ℕ) (demands rates : List ℕ) : Type 0 where
+  pub oneEach : length rates ≡ length demands
+  -- "no demand is exceeded"
+  pub noneExceeded : (k : ℕ) → at rates k ≤ at demands k
+  pub withinThreshold : sum rates ≤ threshold
+  -- "the threshold is used up unless all demands are met"
+  pub usedUp : (sum rates ≡ threshold) ⊎ (rates ≡ demands)
+  -- "whoever got less than demanded has at most one share less than anyone else"
+  pub oneShareLess : (k other : ℕ) → at rates k < at demands k → at rates other ≤ at rates k + 1
+  -- "by rising id": and no less than anyone behind
+  pub earlierFirst : (k later : ℕ) → k < later → at rates k < at demands k → at rates later ≤ at rates k
 
--- "no demand is exceeded"
-unfoldable pub NoneExceeded : Type 0
-NoneExceeded =
+unfoldable pub AreFair : Type 0
+AreFair =
     (threshold : ℕ) (ids demands : List ℕ)
     → T (acceptable threshold ids demands)
-    → (k : ℕ)
-    → rateAt threshold demands k ≤ demandAt demands k
+    → Fair threshold demands (fairRates threshold demands)
 
--- the rates fit the threshold
-unfoldable pub WithinThreshold : Type 0
-WithinThreshold =
-    (threshold : ℕ) (ids demands : List ℕ)
-    → T (acceptable threshold ids demands)
-    → sum (fairRates threshold demands) ≤ threshold
-
--- "the threshold is used up unless all demands are met"
-unfoldable pub UsedUp : Type 0
-UsedUp =
-    (threshold : ℕ) (ids demands : List ℕ)
-    → T (acceptable threshold ids demands)
-    → (sum (fairRates threshold demands) ≡ threshold) ⊎ (fairRates threshold demands ≡ demands)
-
--- "whoever got less than demanded has at most one share less than anyone else"
-unfoldable pub OneShareLess : Type 0
-OneShareLess =
-    (threshold : ℕ) (ids demands : List ℕ)
-    → T (acceptable threshold ids demands)
-    → (k other : ℕ)
-    → rateAt threshold demands k < demandAt demands k
-    → rateAt threshold demands other ≤ rateAt threshold demands k + 1
-
--- "by rising id": and at least as much as anyone behind
-unfoldable pub EarlierFirst : Type 0
-EarlierFirst =
-    (threshold : ℕ) (ids demands : List ℕ)
-    → T (acceptable threshold ids demands)
-    → (k later : ℕ)
-    → k < later
-    → rateAt threshold demands k < demandAt demands k
-    → rateAt threshold demands later ≤ rateAt threshold demands k
+-- no other rates are fair, so nobody needs to know of a level
+unfoldable pub OnlyOne : Type 0
+OnlyOne =
+    (threshold : ℕ) (demands rates others : List ℕ)
+    → Fair threshold demands rates
+    → Fair threshold demands others
+    → rates ≡ others
 
 -- every demand gets at least one share
 unfoldable pub EveryServed : Type 0
@@ -76,7 +52,7 @@ EveryServed =
     → T (acceptable threshold ids demands)
     → (k : ℕ)
     → k < length demands
-    → 1 ≤ rateAt threshold demands k
+    → 1 ≤ at (fairRates threshold demands) k
 
 -- a larger threshold takes from nobody
 unfoldable pub MoreForAll : Type 0
@@ -86,7 +62,7 @@ MoreForAll =
     → T (acceptable larger ids demands)
     → threshold ≤ larger
     → (k : ℕ)
-    → rateAt threshold demands k ≤ rateAt larger demands k
+    → at (fairRates threshold demands) k ≤ at (fairRates larger demands) k
 
 -- raising one's own demand never lowers one's own rate
 unfoldable pub OwnDemand : Type 0
@@ -94,5 +70,5 @@ OwnDemand =
     (threshold : ℕ) (ids demands : List ℕ) (k more : ℕ)
     → T (acceptable threshold ids demands)
     → T (acceptable threshold ids (set demands k more))
-    → demandAt demands k ≤ more
-    → rateAt threshold demands k ≤ rateAt threshold (set demands k more) k
+    → at demands k ≤ more
+    → at (fairRates threshold demands) k ≤ at (fairRates threshold (set demands k more)) k

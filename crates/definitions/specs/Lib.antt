@@ -33,6 +33,7 @@ pub mod Evenness
 pub mod Cases
 pub mod GreedyExamples
 pub mod GuaranteeExamples
+pub mod FairExamples
 -- what is easy to get wrong
 pub mod Facts
 -- what the claims rule out
