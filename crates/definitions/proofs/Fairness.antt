@@ -1,6 +1,6 @@
 -- The fair rates of S-8: the level, the rates at a level, and what is claimed of them.
 pub mod Level
-pub mod Rates
+pub mod RatesAtLevel
 pub mod Claims
 pub mod Only
-pub mod Examples
+pub mod FairExamples

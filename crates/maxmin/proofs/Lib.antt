@@ -1,2 +1,2 @@
-pub mod Walks
-pub mod Grants
+pub mod DemandWalk
+pub mod RatesGiven

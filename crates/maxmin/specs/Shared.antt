@@ -1,5 +1,5 @@
--- The fair rates, in lent lists of any lengths and any numbers (paper 02, S-8). Where a list has no id to a demand, or the room is
--- shorter than the list, no rates can be given either, and 22 is the only check.
+-- The fair rates, for lent lists of any lengths and any numbers, in a lent room (paper 02, S-8). "22, the only check", stands as
+-- well for lists without one id to a demand, and for a room that is shorter than the list: neither has rates to give.
 use Prim.Native.Nat.{ℕ}
 use mathlib.Core.Path.{_≡_}
 use mathlib.Core.Bool.{Bool, true, false, _&&_}

@@ -16,8 +16,8 @@ use Rattle.definitions.specs.Fairness.{at, sum, AreFair, EveryServed, Mo
 use Rattle.definitions.proofs.Laws.Tests.{T-true, T-and, lt-cases, within-true}
 use Rattle.definitions.proofs.Fairness.Level.{cutSum-bound, cutSum-more, cutSum-set}
 use Rattle.definitions.proofs.Fairness.Level.{level-top, level-fits, level-last, level-reaches, level-is}
-use Rattle.definitions.proofs.Fairness.Rates.{rates-length, rates-sum, rate-low, rate-high, rate-first, rate-more}
-use Rattle.definitions.proofs.Fairness.Rates.{rates-set, rates-met}
+use Rattle.definitions.proofs.Fairness.RatesAtLevel.{rates-length, rates-sum, rate-low, rate-high, rate-first, rate-more}
+use Rattle.definitions.proofs.Fairness.RatesAtLevel.{rates-set, rates-met}
 
 -- ---- what a list that is accepted is
 

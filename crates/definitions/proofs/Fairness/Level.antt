@@ -29,7 +29,8 @@ pub cutSum-zero : (ds : List ℕ) → cutSum 0 ds ≡ 0
 cutSum-zero ds = omega (arith, cutSum-bound ds 0)
 
 -- another demand that is cut to the same leaves the sum as it was
-pub cutSum-set : (ds : List ℕ) (k d level : ℕ) → min d level ≡ min (getD ds k 0) level → cutSum level (set ds k d) ≡ cutSum level ds
+pub cutSum-set : (ds : List ℕ) (k d level : ℕ) → min d level ≡ min (getD ds k 0) level
+    → cutSum level (set ds k d) ≡ cutSum level ds
 unfolding cutSum
 cutSum-set [] k d level same = refl
 cutSum-set (x ∷ ds) zero d level same = omega arith

@@ -7,7 +7,7 @@ use mathlib.Core.Path.{_≡_, refl}
 use lib.ListN.{length, drop}
 use Rattle.definitions.specs.Sizes.{ids, shares}
 use Rattle.definitions.specs.FairRates.{cutSum}
-use Rattle.maxmin.proofs.Walks.{cut-next, cut-none, cut-fits}
+use Rattle.maxmin.proofs.DemandWalk.{cut-next, cut-none, cut-fits}
 use Rattle.maxmin.proofs.cut_sum.Statement.{statement}
 use Rattle.maxmin.proofs.cut_sum.Tie as tie
 

@@ -7,7 +7,7 @@ use lib.ListN.{length, getD, drop}
 use borrow.Author.Tests.{not-true, not-false}
 use Rattle.definitions.specs.Sizes.{ids}
 use Rattle.definitions.specs.FairRates.{listedFrom}
-use Rattle.maxmin.proofs.Walks.{entry-low, listed-next, listed-none, listed-unequal}
+use Rattle.maxmin.proofs.DemandWalk.{entry-low, listed-next, listed-none, listed-unequal}
 use Rattle.maxmin.proofs.is_listed.Statement.{statement}
 use Rattle.maxmin.proofs.is_listed.Tie as tie
 
@@ -46,7 +46,9 @@ returns-2 c =
     let turn = c .before .before .before .before in
     let args = turn .before .before .before .before .before .args in
     let loop = turn .before .loop in
-    let here = listed-next (args .demands .now) (loop .i) (turn .loop-test .taken) (args .listed .now) (loop .lowest) (loop .inv .1) in
+    let here =
+    listed-next (args .demands .now) (loop .i) (turn .loop-test .taken) (args .listed .now) (loop .lowest) (loop .inv .1)
+    in
     sym (loop .inv .0 ∙ here ∙ rw (sym (c .before .is-entry .ensures) ∙ not-true _ (c .if2 .taken)))
 
 add-lowest : tie.Need-add-lowest Inv-loop μ-loop
@@ -69,7 +71,9 @@ loop-again c =
     let turn = c .before .before .before .before in
     let args = turn .before .before .before .before .before .args in
     let loop = turn .before .loop in
-    let here = listed-next (args .demands .now) (loop .i) (turn .loop-test .taken) (args .listed .now) (loop .lowest) (loop .inv .1) in (
+    let here =
+    listed-next (args .demands .now) (loop .i) (turn .loop-test .taken) (args .listed .now) (loop .lowest) (loop .inv .1)
+    in (
       loop .inv .0 ∙ here ∙ rw (sym (c .before .is-entry .ensures) ∙ not-false _ (c .if2 .left)),
       loop .inv .1,
       omega (arith, turn .loop-test .taken),

@@ -9,7 +9,7 @@ use lib.Seq.{sets}
 use Rattle.definitions.specs.Sizes.{shares}
 use Rattle.definitions.specs.FairRates.{extra, ratesAt}
 use Rattle.definitions.proofs.Laws.Tests.{cond-both}
-use Rattle.maxmin.proofs.Walks.{rates-next, rates-none}
+use Rattle.maxmin.proofs.DemandWalk.{rates-next, rates-none}
 use Rattle.maxmin.proofs.put_rates.Statement.{statement}
 use Rattle.maxmin.proofs.put_rates.Tie as tie
 

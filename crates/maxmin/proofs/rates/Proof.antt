@@ -2,7 +2,7 @@
 use borrow.Author.Needs.{needs}
 use mathlib.Core.Path.{sym, _∙_}
 use borrow.Author.Tests.{not-true, not-false}
-use Rattle.maxmin.proofs.Grants.{accepted-few, refused-list, refused-room, found-low, found-fits, given}
+use Rattle.maxmin.proofs.RatesGiven.{accepted-few, refused-list, refused-room, found-low, found-fits, given}
 use Rattle.maxmin.proofs.rates.Statement.{statement}
 use Rattle.maxmin.proofs.rates.Tie as tie
 
@@ -51,5 +51,5 @@ returns-3 c =
 pub rates-spec : {M : Type 1} → statement M
 rates-spec =
     tie.close
-    (tie.spec is-acceptable-requires returns returns-2 fair-level-requires cut-sum-requires sub-left put-rates-requires same-length
-    returns-3)
+    (tie.spec is-acceptable-requires returns returns-2 fair-level-requires cut-sum-requires sub-left put-rates-requires
+    same-length returns-3)

@@ -19,7 +19,10 @@ use Rattle.maxmin.specs.Shared.{granted, roomAfter, Shared}
 pub found-low : (threshold : ℕ) (ds : List ℕ) {level : ℕ} → level ≡ fairLevel threshold ds → level ≤ shares
 found-low threshold ds found = rw found (level-top threshold ds)
 
-pub found-fits : (threshold : ℕ) (ds : List ℕ) {level sum : ℕ} → level ≡ fairLevel threshold ds → sum ≡ cutSum level ds → sum ≤ threshold
+pub found-fits : (threshold : ℕ) (ds : List ℕ) {level sum : ℕ}
+    → level ≡ fairLevel threshold ds
+    → sum ≡ cutSum level ds
+    → sum ≤ threshold
 found-fits threshold ds found cut = rw (cut, found) (level-fits threshold ds)
 
 module _ (threshold : ℕ) (is ds : List ℕ) where
