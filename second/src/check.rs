@@ -778,13 +778,14 @@ fn s14_sure_and_no_more() {
     assert_eq!(picks, [false, true, true, true, true, true, false]);
 }
 
-/// Chance for the stretches below: the generator's values, each the start of the next.
-struct Chance {
-    v: u32,
+/// Chance for the stretches below and for the lists of S-8: the generator's values, each the start
+/// of the next.
+pub struct Chance {
+    pub v: u32,
 }
 
 impl Chance {
-    fn below(&mut self, most: u32) -> u32 {
+    pub fn below(&mut self, most: u32) -> u32 {
         self.v = xorshift32(self.v);
         (self.v >> 7) % most
     }

@@ -53,7 +53,7 @@ pub fn parse(line: &[u8]) -> Line {
 }
 
 /// If the whole line has the shape, the digits of its numbers in order; otherwise nothing.
-fn numbers_in<'a>(shape: &[u8], line: &'a [u8]) -> Option<Vec<&'a [u8]>> {
+pub(crate) fn numbers_in<'a>(shape: &[u8], line: &'a [u8]) -> Option<Vec<&'a [u8]>> {
     let mut numbers = Vec::new();
     let mut rest = line;
     for &part in shape {
@@ -92,7 +92,7 @@ fn number_length(rest: &[u8]) -> Option<usize> {
 }
 
 /// The value of some digits, or nothing if it is "above 4294967295".
-fn value(digits: &[u8]) -> Option<u32> {
+pub(crate) fn value(digits: &[u8]) -> Option<u32> {
     let mut sum: u64 = 0;
     for &digit in digits {
         sum = sum * 10 + u64::from(digit - b'0');
