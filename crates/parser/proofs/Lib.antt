@@ -3,4 +3,5 @@ pub mod NumeralWalk
 pub mod TemplateWalk
 pub mod Texts
 pub mod Forms
+pub mod PairReads
 pub mod Words

@@ -2,4 +2,5 @@
 pub mod Numbers
 pub mod Texts
 pub mod Readings
+pub mod Pairs
 pub mod Words

@@ -1,4 +1,5 @@
-// Reads one line of the script: any bytes, any number of them. The grammar that it reads by is `parsed` of crate grammar.
+// Reads one line of the script: any bytes, any number of them. The grammar that it reads by is `parsed` of crate grammar. The two
+// lines of a text of demands are read by the same rules.
 // A form is the text that it begins with, a template for the rest, with gaps for numbers, and the call that the numbers make.
 // One matcher walks the templates, and knows nothing of calls.
 use definitions::HANDLE_LIMIT;
@@ -15,7 +16,9 @@ ghost use mathlib.Core.List.{_++_};
 ghost use lib.ListN.{drop};
 ghost use Rattle.grammar.specs.Grammar.{openForms, joinForms, changeForms, leaveForms, loadForms, arriveForms, tickForms};
 ghost use Rattle.grammar.specs.Grammar.{parsedBy, parsed};
+ghost use Rattle.grammar.specs.FairSheet.{thresholdForm, demandForm};
 ghost use Rattle.parser.specs.Numbers.{byteOf, digitOf, spelled, Grows, Exceeds, Spells};
+ghost use Rattle.parser.specs.Pairs.{Narrow, pairFrom, pairOf};
 ghost use Rattle.parser.specs.Readings.{gapOf, Room, Readable, Reads, noTerms, TermsRead, TermsBehind};
 ghost use Rattle.parser.specs.Texts.{starts, plain};
 ghost use Rattle.parser.specs.Words.{wordOf};
@@ -83,6 +86,13 @@ pub enum Word {
 struct Gap {
     is: bool,
     limit: u64,
+}
+
+// What a form with one number or two finds in a line: the number that refuses it, or 0 and the form's numbers.
+pub struct Pair {
+    pub refused: u32,
+    pub first: u32,
+    pub second: u32,
 }
 
 // What stands behind `(join ` and `(change `: the number that refuses it, or 0 and the numbers of the call.
@@ -510,4 +520,41 @@ pub fn parse(line: &[u8]) -> Line
         TICK => parse_tick(line),
         _ => Line::Refused { number: NO_FORM },
     }
+}
+
+// The numbers of a form that was read, where nothing refuses its line.
+fn pair_from(refused: u32, first: u64, second: u64) -> Pair
+    requires { ⌜ Narrow refused first second ⌝ }
+    ensures { λ r. ⌜ r ≡ pairFrom refused first second ⌝ }
+{
+    if refused != FITS {
+        return Pair {
+            refused,
+            first: 0,
+            second: 0,
+        };
+    }
+    Pair {
+        refused: FITS,
+        first: first as u32,
+        second: second as u32,
+    }
+}
+
+// The first line of a text of demands, with the line feed that closes it (paper 02, S-8).
+pub fn threshold(line: &[u8]) -> Pair
+    ensures { λ r. ⌜ r ≡ pairOf thresholdForm (now (line .entry)) ⌝ }
+{
+    let mut numbers = [0; NUMBERS];
+    let refused = read_form(line, b"(threshold ", b"#)\n", &mut numbers);
+    pair_from(refused, numbers[0], 0)
+}
+
+// A demand: its id and its shares, likewise.
+pub fn demand(line: &[u8]) -> Pair
+    ensures { λ r. ⌜ r ≡ pairOf demandForm (now (line .entry)) ⌝ }
+{
+    let mut numbers = [0; NUMBERS];
+    let refused = read_form(line, b"(demand ", b"# #)\n", &mut numbers);
+    pair_from(refused, numbers[0], numbers[1])
 }
