@@ -2,9 +2,11 @@
 -- written, so that a caller who sees to the room gets every line whole.
 use Prim.Native.Nat.{ℕ, _+_, _≤_, _<_}
 use mathlib.Core.Path.{_≡_}
-use mathlib.Core.List.{List}
+use mathlib.Core.List.{List, _++_}
 use lib.ListN.{length}
 use Rattle.definitions.specs.declared.Answer.{Answer}
+use Rattle.grammar.specs.Bytes.{bytes}
+use Rattle.grammar.specs.Numerals.{decimal}
 use Rattle.grammar.specs.Printout.{printed}
 use Rattle.printer.specs.Appended.{Appended}
 
@@ -19,3 +21,11 @@ pub record LineWritten (line before : List ℕ) (at : ℕ) (after : List ℕ) (e
 -- the line of an answer
 abbrev pub Printed : Answer → List ℕ → ℕ → List ℕ → ℕ → Type 0
 Printed answer = LineWritten (printed answer)
+
+-- the line of a text and two numbers: "one blank between" them
+abbrev pub pairLine : List ℕ → ℕ → ℕ → List ℕ
+pairLine text first second = (text ++ decimal first) ++ ((bytes " " ++ decimal second) ++ bytes ")\n")
+
+-- the room of its text, beside two numbers of ten digits and the three bytes around them
+abbrev pub wordRoom : ℕ
+wordRoom = 41

@@ -1,5 +1,5 @@
-// Prints answers (paper 01, "Script and printout"), and the figure of a forecast: each as a line of text, into bytes that are
-// lent, from a place on.
+// Prints answers (paper 01, "Script and printout"), the figure of a forecast and fair rates: each as a line of text, into bytes
+// that are lent, from a place on.
 use definitions::Answer;
 use definitions::Outcome;
 use definitions::Packet;
@@ -11,8 +11,9 @@ ghost use lib.ListN.{length};
 ghost use Rattle.grammar.specs.Numerals.{decimal};
 ghost use Rattle.grammar.specs.Printout.{printed};
 ghost use Rattle.grammar.specs.Forecast.{sureLine};
+ghost use Rattle.grammar.specs.FairSheet.{rateLine};
 ghost use Rattle.printer.specs.Appended.{Appended};
-ghost use Rattle.printer.specs.Printed.{lineRoom, LineWritten, Printed};
+ghost use Rattle.printer.specs.Printed.{lineRoom, LineWritten, Printed, wordRoom, pairLine};
 
 // The room that a line is given. No line of numbers of 32 bits is longer.
 const LINE_ROOM: usize = 64;
@@ -152,13 +153,28 @@ pub fn print(out: &mut [u8], at: usize, answer: Answer) -> usize
     }
 }
 
-// Writes the line of a number of ticks and a number of picks from a place on; places and room are those of `print_refused`.
-pub fn print_sure(out: &mut [u8], at: usize, ticks: u32, picks: u32) -> usize
-    ensures { λ r. ⌜ LineWritten (sureLine ticks picks) (now (out .entry)) at (now (out .exit)) r ⌝ }
+// Writes a line of a text and two numbers from a place on; places and room are those of `print_refused`.
+fn print_pair(out: &mut [u8], at: usize, text: &[u8], first: u32, second: u32) -> usize
+    requires { ⌜ length (now text) ≤ wordRoom ⌝ }
+    ensures { λ r. ⌜ LineWritten (pairLine (now (text .entry)) first second) (now (out .entry)) at (now (out .exit)) r ⌝ }
 {
     if !has_room(out.len(), at) {
         return at;
     }
-    let end = put_number(out, at, b"(sure ", ticks);
-    put_between(out, end, b" ", picks, b")\n")
+    let end = put_number(out, at, text, first);
+    put_between(out, end, b" ", second, b")\n")
+}
+
+// Writes the line of a number of ticks and a number of picks.
+pub fn print_sure(out: &mut [u8], at: usize, ticks: u32, picks: u32) -> usize
+    ensures { λ r. ⌜ LineWritten (sureLine ticks picks) (now (out .entry)) at (now (out .exit)) r ⌝ }
+{
+    print_pair(out, at, b"(sure ", ticks, picks)
+}
+
+// Writes the line of a demand's id and the rate that it gets.
+pub fn print_rate(out: &mut [u8], at: usize, id: u32, rate: u32) -> usize
+    ensures { λ r. ⌜ LineWritten (rateLine id rate) (now (out .entry)) at (now (out .exit)) r ⌝ }
+{
+    print_pair(out, at, b"(rate ", id, rate)
 }
