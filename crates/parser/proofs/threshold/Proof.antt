@@ -2,6 +2,7 @@
 -- nothing.
 use mathlib.Core.Path.{refl, _∙_}
 use native.Mathlib.Omega.{arith}
+use Rattle.definitions.specs.Sizes.{numberLimit}
 use Rattle.grammar.specs.Templates.{limits}
 use Rattle.parser.specs.Texts.{plain}
 use Rattle.parser.proofs.Forms.{read-placed, read-within}
@@ -24,7 +25,7 @@ array-read-pair-from : tie.Need-array-read-pair-from
 array-read-pair-from c = search needs
 
 pair-from-requires : tie.Need-pair-from-requires
-unfolding limits
+unfolding limits numberLimit
 pair-from-requires c κs = record { low = λ e. (read-within (c .read-form .ensures) e 0 (omega arith), omega arith) }
 
 returns : tie.Need-returns
