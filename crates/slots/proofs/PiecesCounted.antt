@@ -14,7 +14,7 @@ use Rattle.script.specs.declared.Progress.{Progress}
 use Rattle.script.specs.Pieces.{Start, Piece}
 use Rattle.script.proofs.PiecesPrinted.{pieces-printed}
 use Rattle.script.proofs.PiecesReached.{Reached, reached-first, reached-more}
-use Rattle.slots.specs.Writing.{pieceRoom}
+use Rattle.slots.specs.PieceRoom.{pieceRoom}
 
 pub record Counted (text out : List ℕ) (c : Control) (t : Tables) (at written total : ℕ) : Type 0 where
   pub bytes : List ℕ

@@ -1,4 +1,3 @@
--- What reading and writing give: counts of bytes, since no contract can say which bytes go in and out.
-pub mod Reading
-pub mod Writing
+-- What the arguments ask for, and the buffer that the answer goes through.
+pub mod PieceRoom
 pub mod Requests

@@ -1,13 +1,13 @@
 // Reads a script from standard input and writes its printout, or the forecast behind it. What is written is decided in `script`
 // and in `forecast`.
 use arguments::ARGUMENT;
-use libc::EINTR;
 use libc::STDERR_FILENO;
-use libc::STDIN_FILENO;
 use libc::STDOUT_FILENO;
 use order::LINKS;
 use parser::Word;
 use script::Progress;
+use streams::Reading;
+use streams::Writing;
 use tables::STOCKS;
 use tables::STORE;
 use tables::TERMS;
@@ -16,12 +16,9 @@ ghost use lib.ListN.{length};
 ghost use Rattle.grammar.specs.Printout.{printout};
 ghost use Rattle.grammar.specs.Forecast.{forecastBehind};
 ghost use Rattle.script.specs.Pieces.{Start};
-ghost use Rattle.slots.specs.Reading.{Within};
-ghost use Rattle.slots.specs.Writing.{pieceRoom, HandedOn};
+ghost use Rattle.streams.specs.Writing.{HandedOn};
+ghost use Rattle.slots.specs.PieceRoom.{pieceRoom};
 ghost use Rattle.slots.specs.Requests.{Asks, requested};
-
-// How often a read is tried that a signal interrupts each time.
-const TRIES: u32 = 1000000;
 
 // The program's name alone; and with it the option and its number.
 const NO_ARGUMENTS: usize = 1;
@@ -33,55 +30,6 @@ enum Request {
     Printout,
     Forecast { ticks: u32 },
     Unknown,
-}
-
-// What reading gave: so many bytes, or a read that failed.
-enum Reading {
-    Bytes(usize),
-    Failed,
-}
-
-// What writing gave: so many bytes handed on, or a write that failed.
-enum Writing {
-    Bytes(usize),
-    Failed,
-}
-
-// One read into the room; no bytes are the end of the input. What the read gave tells whether it failed, and errno is asked
-// only of one that did. A read that a signal interrupted, before it gave a byte, is tried again.
-fn read_some(room: &mut [u8]) -> Reading
-    ensures { λ r. ⌜ Within r (now (room .exit)) ⌝ }
-{
-    let mut tries = TRIES;
-    while tries > 0 {
-        let got = libc::read(STDIN_FILENO, room);
-        if got >= 0 {
-            return Reading::Bytes(io::count(got, room));
-        }
-        if os::errno() != EINTR {
-            return Reading::Failed;
-        }
-        tries -= 1;
-    }
-    Reading::Failed
-}
-
-// Reads until the room is full, the input ends or a read fails.
-fn read_text(room: &mut [u8]) -> Reading
-    ensures { λ r. ⌜ Within r (now (room .exit)) ⌝ }
-{
-    let mut length: usize = 0;
-    while length < room.len() {
-        let got = read_some(&mut room[length..]);
-        let Reading::Bytes(more) = got else {
-            return Reading::Failed;
-        };
-        if more == 0 {
-            return Reading::Bytes(length);
-        }
-        length += more;
-    }
-    Reading::Bytes(length)
 }
 
 // Writes what the start of a script left in the buffer, and piece by piece what is behind it, to the end of the text or a write
@@ -169,10 +117,7 @@ fn write_forecast(text: &[u8], ticks: u32) -> Writing
         &mut lengths,
         &mut links,
     );
-    if io::write_all(STDOUT_FILENO, &out[..written]) {
-        return Writing::Bytes(written);
-    }
-    Writing::Failed
+    streams::write_text(&out[..written])
 }
 
 // Writes what is asked for.
@@ -224,7 +169,7 @@ fn main() {
         return;
     }
     let mut text = io::large_buffer();
-    let got = read_text(&mut text);
+    let got = streams::read_text(&mut text);
     let Reading::Bytes(length) = got else {
         os::fail(b"slots: standard input");
         return;

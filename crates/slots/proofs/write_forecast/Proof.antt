@@ -1,8 +1,7 @@
 -- `slots::write_forecast` meets its contract: the buffer has room for a line, and what was written of it is the line. Assumes
 -- nothing.
 use borrow.Author.Needs.{needs}
-use mathlib.Core.Path.{sym, ap, _∙_}
-use lib.ListN.{length}
+use mathlib.Core.Path.{sym}
 use lib.Seq.{length-take-le}
 use Rattle.slots.proofs.write_forecast.Statement.{statement}
 use Rattle.slots.proofs.write_forecast.Tie as tie
@@ -19,29 +18,17 @@ forecast-requires c κs = search needs
 array-share-prefix-out : tie.Need-array-share-prefix-out
 array-share-prefix-out c = search needs
 
-slice-aggregate-write-all : tie.Need-slice-aggregate-write-all
-slice-aggregate-write-all c = sym (length-take-le _ _ (c .before .before .forecast .ensures .fits))
+slice-aggregate-write-text : tie.Need-slice-aggregate-write-text
+slice-aggregate-write-text c = sym (length-take-le _ _ (c .before .before .forecast .ensures .fits))
 
-write-all-requires : tie.Need-write-all-requires
-write-all-requires c κs = search needs
+write-text-requires : tie.Need-write-text-requires
+write-text-requires c κs = search needs
 
 returns : tie.Need-returns
-returns c =
-    let told = c .before .before .before .before .forecast .ensures in
-    sym (length-take-le _ _ (told .fits)) ∙ ap length (told .told (search needs))
-
-returns-2 : tie.Need-returns-2
-returns-2 c = search needs
+returns c = rw (c .before .before .before .forecast .ensures .told (search needs)) at (c .write-text .ensures)
 
 pub write-forecast-spec : {M : Type 1} → statement M
 write-forecast-spec =
     tie.close
-    (tie.spec
-    buffer-requires
-    slice-aggregate-forecast
-    forecast-requires
-    array-share-prefix-out
-    slice-aggregate-write-all
-    write-all-requires
-    returns
-    returns-2)
+    (tie.spec buffer-requires slice-aggregate-forecast forecast-requires array-share-prefix-out slice-aggregate-write-text
+    write-text-requires returns)

@@ -1,4 +1,4 @@
--- `slots::read_text` meets its contract: what was read lies within the room. The loop's invariant says so of the bytes read so
+-- `streams::read_text` meets its contract: what was read lies within the room. The loop's invariant says so of the bytes read so
 -- far. The measure is the room that is left. Assumes nothing.
 use Prim.Native.Nat.{_≤_, _-_}
 use mathlib.Core.Path.{_≡_}
@@ -6,8 +6,8 @@ use native.Mathlib.Omega.{arith}
 use lib.ListN.{length as long}
 use borrow.Author.Needs.{needs}
 use Rattle.io.proofs.Counting.{counts}
-use Rattle.slots.proofs.read_text.Statement.{statement}
-use Rattle.slots.proofs.read_text.Tie as tie
+use Rattle.streams.proofs.read_text.Statement.{statement}
+use Rattle.streams.proofs.read_text.Tie as tie
 
 abbrev Inv-loop : tie.InvT-loop
 Inv-loop room₀ length₀ room length = (long room ≡ long room₀) × (length ≤ long room)

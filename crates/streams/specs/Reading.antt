@@ -3,8 +3,8 @@
 use mathlib.Core.List.{List}
 use Prim.Native.Nat.{ℕ}
 use Rattle.io.specs.Counts.{Counts}
-use Rattle.slots.specs.declared.Reading.{Reading}
-use Rattle.slots.specs.declared.Reading.the-variants.{Bytes, Failed}
+use Rattle.streams.specs.declared.Reading.{Reading}
+use Rattle.streams.specs.declared.Reading.the-variants.{Bytes, Failed}
 
 abbrev pub Within : Reading → List ℕ → Type 0
 Within (Bytes n) room = Counts n room

@@ -4,12 +4,8 @@ use Prim.Native.Nat.{ℕ}
 use mathlib.Core.Path.{_≡_}
 use mathlib.Core.List.{List}
 use lib.ListN.{length}
-use Rattle.slots.specs.declared.Writing.{Writing}
-use Rattle.slots.specs.declared.Writing.the-variants.{Bytes, Failed}
-
--- the bytes of the buffer that pieces are written in
-abbrev pub pieceRoom : ℕ
-pieceRoom = 4096
+use Rattle.streams.specs.declared.Writing.{Writing}
+use Rattle.streams.specs.declared.Writing.the-variants.{Bytes, Failed}
 
 abbrev pub HandedOn : Writing → List ℕ → Type 0
 HandedOn (Bytes n) bytes = n ≡ length bytes

@@ -1,10 +1,10 @@
--- `slots::read_some` meets its contract: a count is `io::count`'s. The loop's invariant: the room stays as long as it was. The
+-- `streams::read_some` meets its contract: a count is `io::count`'s. The loop's invariant: the room stays as long as it was. The
 -- measure is how many tries are left. Assumes nothing.
 use mathlib.Core.Path.{_≡_}
 use lib.ListN.{length}
 use borrow.Author.Needs.{needs}
-use Rattle.slots.proofs.read_some.Statement.{statement}
-use Rattle.slots.proofs.read_some.Tie as tie
+use Rattle.streams.proofs.read_some.Statement.{statement}
+use Rattle.streams.proofs.read_some.Tie as tie
 
 abbrev Inv-loop : tie.InvT-loop
 Inv-loop room₀ tries₀ room tries = length room ≡ length room₀
