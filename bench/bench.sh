@@ -59,7 +59,7 @@ build() {
     gcc $flags $lto "$out"/{harness,sequence,plain}.o "${proved[@]}" -o "$out/harness"
     local symbols
     symbols=$(nm "$out/harness")
-    if [ -n "$lto" ] && grep -E ' plain_(open|join|change|leave|load|arrive|tick)' <<<"$symbols"; then
+    if [ -n "$lto" ] && grep -E ' plain_(open|join|change|leave|load|arrive|tick|rates)' <<<"$symbols"; then
         echo "bench.sh: gcc left the plain core behind calls" >&2
         exit 1
     fi

@@ -14,42 +14,61 @@
 
 enum { REPETITIONS = 7, DEFAULT_ROUNDS = 500000 };
 
-typedef uint64_t runner(uint32_t, uint32_t, uint32_t, uint32_t, uint32_t, uint32_t);
+/* What is timed: both run the calls and the lists of sequence.h. */
+typedef struct {
+    uint64_t (*calls)(uint32_t, uint32_t, uint32_t, uint32_t, uint32_t, uint32_t);
+    uint64_t (*fair)(uint32_t, uint32_t, uint32_t, uint32_t);
+} implementation;
 
+static const implementation proved = {bench_run, bench_fair}, plain = {plain_run, plain_fair};
+
+/* A sequence of calls, or, where it has demands, of lists of them. */
 typedef struct {
     const char *name;
     uint32_t privates, indifferents, discipline, depth, mode;
+    uint32_t demands, threshold, highest;
 } sequence;
 
+#define CALLS(name, privates, indifferents, discipline, depth, mode) \
+    {name, privates, indifferents, discipline, depth, mode, 0, 0, 0}
+#define LISTS(name, demands, threshold, highest) {name, 0, 0, 0, 0, 0, demands, threshold, highest}
+
 static const sequence sequences[] = {
-    {"1 private", 1, 0, 0, 1, MODE_SLOTS},
-    {"8 private", 8, 0, 0, 1, MODE_SLOTS},
-    {"64 private", 64, 0, 0, 1, MODE_SLOTS},
-    {"1 indifferent, discipline 0", 0, 1, 0, 1, MODE_SLOTS},
-    {"8 indifferent, discipline 0", 0, 8, 0, 1, MODE_SLOTS},
-    {"64 indifferent, discipline 0", 0, 64, 0, 1, MODE_SLOTS},
-    {"1 indifferent, discipline 1", 0, 1, 1, 1, MODE_SLOTS},
-    {"8 indifferent, discipline 1", 0, 8, 1, 1, MODE_SLOTS},
-    {"64 indifferent, discipline 1", 0, 64, 1, 1, MODE_SLOTS},
-    {"8 private + 8 indifferent, discipline 0", 8, 8, 0, 1, MODE_SLOTS},
-    {"8 private + 8 indifferent, discipline 1", 8, 8, 1, 1, MODE_SLOTS},
+    CALLS("1 private", 1, 0, 0, 1, MODE_SLOTS),
+    CALLS("8 private", 8, 0, 0, 1, MODE_SLOTS),
+    CALLS("64 private", 64, 0, 0, 1, MODE_SLOTS),
+    CALLS("1 indifferent, discipline 0", 0, 1, 0, 1, MODE_SLOTS),
+    CALLS("8 indifferent, discipline 0", 0, 8, 0, 1, MODE_SLOTS),
+    CALLS("64 indifferent, discipline 0", 0, 64, 0, 1, MODE_SLOTS),
+    CALLS("1 indifferent, discipline 1", 0, 1, 1, 1, MODE_SLOTS),
+    CALLS("8 indifferent, discipline 1", 0, 8, 1, 1, MODE_SLOTS),
+    CALLS("64 indifferent, discipline 1", 0, 64, 1, 1, MODE_SLOTS),
+    CALLS("8 private + 8 indifferent, discipline 0", 8, 8, 0, 1, MODE_SLOTS),
+    CALLS("8 private + 8 indifferent, discipline 1", 8, 8, 1, 1, MODE_SLOTS),
     /* Each queue has 1 packet before the first arrival, or 31. */
-    {"8 private, depth 1", 8, 0, 0, 2, MODE_SLOTS},
-    {"8 private, depth 32", 8, 0, 0, 32, MODE_SLOTS},
-    {"8 indifferent, discipline 0, depth 1", 0, 8, 0, 2, MODE_SLOTS},
-    {"8 indifferent, discipline 0, depth 32", 0, 8, 0, 32, MODE_SLOTS},
-    {"8 indifferent, discipline 1, depth 1", 0, 8, 1, 2, MODE_SLOTS},
-    {"8 indifferent, discipline 1, depth 32", 0, 8, 1, 32, MODE_SLOTS},
-    {"only refused calls", 8, 0, 0, 1, MODE_REFUSED},
+    CALLS("8 private, depth 1", 8, 0, 0, 2, MODE_SLOTS),
+    CALLS("8 private, depth 32", 8, 0, 0, 32, MODE_SLOTS),
+    CALLS("8 indifferent, discipline 0, depth 1", 0, 8, 0, 2, MODE_SLOTS),
+    CALLS("8 indifferent, discipline 0, depth 32", 0, 8, 0, 32, MODE_SLOTS),
+    CALLS("8 indifferent, discipline 1, depth 1", 0, 8, 1, 2, MODE_SLOTS),
+    CALLS("8 indifferent, discipline 1, depth 32", 0, 8, 1, 32, MODE_SLOTS),
+    CALLS("only refused calls", 8, 0, 0, 1, MODE_REFUSED),
+    LISTS("fair rates of 1 demand", 1, 1024, 1024),
+    LISTS("fair rates of 8 demands", 8, 1024, 1024),
+    LISTS("fair rates of 64 demands", 64, 1024, 1024),
+    LISTS("fair rates of 64 demands, a share each", 64, 64, 1024),
+    LISTS("fair rates of 64 demands, all met", 64, 1024, 16),
 };
 enum { SEQUENCES = sizeof sequences / sizeof sequences[0] };
 
 static uint32_t calls_of(const sequence *s) {
+    if (s->demands > 0) return 1;
     return s->mode == MODE_SLOTS ? CALLS_OF_SLOTS : CALLS_OF_REFUSED;
 }
 
-static uint64_t run(runner *of, const sequence *s, uint32_t rounds) {
-    return of(s->privates, s->indifferents, s->discipline, s->depth, s->mode, rounds);
+static uint64_t run(const implementation *of, const sequence *s, uint32_t rounds) {
+    if (s->demands > 0) return of->fair(s->demands, s->threshold, s->highest, rounds);
+    return of->calls(s->privates, s->indifferents, s->discipline, s->depth, s->mode, rounds);
 }
 
 static double now(void) {
@@ -64,7 +83,7 @@ typedef struct {
     uint64_t sum;
 } timing;
 
-static void time_once(timing *t, runner *of, const sequence *s, uint32_t rounds) {
+static void time_once(timing *t, const implementation *of, const sequence *s, uint32_t rounds) {
     double start = now();
     run(of, s, 0);
     double between = now();
@@ -80,22 +99,22 @@ static double call_time(const timing *t, const sequence *s, uint32_t rounds) {
 
 /* Each repetition goes through all sequences, so that a slow spell of the machine hits none alone. */
 static int time_all(uint32_t rounds) {
-    static timing proved[SEQUENCES], plain[SEQUENCES];
+    static timing ours[SEQUENCES], theirs[SEQUENCES];
     for (int repetition = 0; repetition < REPETITIONS; repetition++) {
         for (int i = 0; i < SEQUENCES; i++) {
-            time_once(&proved[i], bench_run, &sequences[i], rounds);
-            time_once(&plain[i], plain_run, &sequences[i], rounds);
-            if (proved[i].sum != plain[i].sum) {
+            time_once(&ours[i], &proved, &sequences[i], rounds);
+            time_once(&theirs[i], &plain, &sequences[i], rounds);
+            if (ours[i].sum != theirs[i].sum) {
                 fprintf(stderr, "harness: %s: proved gives %" PRIu64 ", plain %" PRIu64 "\n",
-                        sequences[i].name, proved[i].sum, plain[i].sum);
+                        sequences[i].name, ours[i].sum, theirs[i].sum);
                 return 1;
             }
         }
     }
     puts("| sequence | proved ns/call | plain ns/call | ratio |\n|---|---:|---:|---:|");
     for (int i = 0; i < SEQUENCES; i++) {
-        double a = call_time(&proved[i], &sequences[i], rounds);
-        double b = call_time(&plain[i], &sequences[i], rounds);
+        double a = call_time(&ours[i], &sequences[i], rounds);
+        double b = call_time(&theirs[i], &sequences[i], rounds);
         printf("| %s | %.2f | %.2f | %.2f |\n", sequences[i].name, a, b, a / b);
     }
     return 0;
@@ -126,9 +145,9 @@ static int one(const char *which, const char *index_text, const char *rounds_tex
     uint32_t index, rounds;
     if (!read_number(index_text, &index) || !read_number(rounds_text, &rounds)) return usage();
     if (index >= SEQUENCES) return usage();
-    runner *of = strcmp(which, "proved") == 0  ? bench_run
-                 : strcmp(which, "plain") == 0 ? plain_run
-                                               : NULL;
+    const implementation *of = strcmp(which, "proved") == 0  ? &proved
+                               : strcmp(which, "plain") == 0 ? &plain
+                                                             : NULL;
     if (of == NULL) return usage();
     printf("%" PRIu64 "\n", run(of, &sequences[index], rounds));
     return 0;

@@ -276,3 +276,40 @@ uint32_t plain_tick(plain_core *core, plain_slot *slot) {
     refill(core);
     return 0;
 }
+
+/* ---- fair rates */
+
+static inline uint32_t least(uint32_t a, uint32_t b) { return a < b ? a : b; }
+
+static inline bool is_share(uint32_t n) { return n - 1 < PLAIN_SHARES; }
+
+static inline bool is_list(const uint32_t *ids, const uint32_t *demands, uint32_t count) {
+    for (uint32_t i = 0, lowest = 0; i < count; lowest = ids[i] + 1, i++)
+        if (ids[i] < lowest || ids[i] >= PLAIN_CLIENTS || !is_share(demands[i])) return false;
+    return true;
+}
+
+static inline uint32_t cut_sum(const uint32_t *demands, uint32_t count, uint32_t level) {
+    uint32_t sum = 0;
+    for (uint32_t i = 0; i < count; i++) sum += least(demands[i], level);
+    return sum;
+}
+
+uint32_t plain_rates(uint32_t threshold, const uint32_t *ids, const uint32_t *demands, uint32_t count, uint32_t *rates) {
+    if (!is_share(threshold) || count > PLAIN_CLIENTS || count > threshold || !is_list(ids, demands, count)) return 22;
+    uint32_t level = 0, above = PLAIN_SHARES + 1; /* the demands fit at level, and not from above on */
+    while (above - level > 1) {
+        uint32_t middle = level + (above - level) / 2;
+        if (cut_sum(demands, count, middle) <= threshold)
+            level = middle;
+        else
+            above = middle;
+    }
+    uint32_t left = threshold - cut_sum(demands, count, level);
+    for (uint32_t i = 0; i < count; i++) {
+        uint32_t more = demands[i] > level && left > 0;
+        rates[i] = least(demands[i], level) + more;
+        left -= more;
+    }
+    return 0;
+}

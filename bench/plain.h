@@ -1,4 +1,4 @@
-/* The slot core of a shared gateway (paper 01, with S-1 of paper 02), in plain C: the yardstick of the benchmark.
+/* The slot core of a shared gateway (paper 01, with S-1 of paper 02), and the fair rates of S-8, in plain C: the yardstick of the benchmark.
    Every call but tick answers 0 for accepted or the number of the first check that failed. */
 #ifndef PLAIN_H
 #define PLAIN_H
@@ -11,6 +11,8 @@ enum {
     PLAIN_DEPTH = 32, /* places of each id; place p belongs to id p / 32 */
     PLAIN_PLACES = PLAIN_CLIENTS * PLAIN_DEPTH,
 };
+
+enum { PLAIN_SHARES = 1024 };
 
 enum plain_type { PLAIN_INACTIVE = 0, PLAIN_INDIFFERENT = 1, PLAIN_PRIVATE = 2 };
 
@@ -56,5 +58,7 @@ uint32_t plain_load(plain_core *core, uint32_t id, uint32_t dummies);
 uint32_t plain_arrive(plain_core *core, uint32_t id, uint32_t handle, uint32_t length);
 /* Answers 0 and fills the slot, or 19. */
 uint32_t plain_tick(plain_core *core, plain_slot *slot);
+/* Answers 0 and gives each demand its rate, or 22 and gives none. */
+uint32_t plain_rates(uint32_t threshold, const uint32_t *ids, const uint32_t *demands, uint32_t count, uint32_t *rates);
 
 #endif

@@ -77,3 +77,23 @@ uint64_t plain_run(uint32_t privates, uint32_t indifferents, uint32_t discipline
     return mode == MODE_SLOTS ? run_slots(&core, clients, rounds)
                               : run_refused(&core, clients, mode, rounds);
 }
+
+INLINED static uint64_t run_fair(const uint32_t *ids, uint32_t *demands, uint32_t *rates, uint32_t count, uint32_t threshold,
+                                 uint32_t highest, uint32_t rounds) {
+    uint64_t sum = 0;
+    for (uint32_t k = 0, i = 0; k < rounds; k++, i = next_id(i, count)) {
+        demands[i] = 1 + k % 1024 * 37 % highest;
+        sum += code_of(plain_rates(threshold, ids, demands, count, rates));
+        sum += rates[i];
+    }
+    return sum;
+}
+
+uint64_t plain_fair(uint32_t count, uint32_t threshold, uint32_t highest, uint32_t rounds) {
+    uint32_t ids[PLAIN_CLIENTS], demands[PLAIN_CLIENTS], rates[PLAIN_CLIENTS] = {0};
+    for (uint32_t i = 0; i < PLAIN_CLIENTS; i++) {
+        ids[i] = i;
+        demands[i] = 1;
+    }
+    return run_fair(ids, demands, rates, count, threshold, highest, rounds);
+}

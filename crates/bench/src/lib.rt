@@ -1,5 +1,6 @@
 // The benchmark's sequences over the proved calls, exported to C. The same sequences stand in bench/ in C.
 use definitions::Answer;
+use definitions::IDS;
 use definitions::Outcome;
 use definitions::Packet;
 use order::LINKS;
@@ -7,9 +8,14 @@ use tables::Control;
 use tables::STOCKS;
 use tables::STORE;
 use tables::TERMS;
+ghost use mathlib.Core.Path.{_≡_};
 ghost use Prim.Native.Nat.{_≤_, _<_};
+ghost use lib.ListN.{length};
 ghost use Rattle.tables.specs.Tables.{tables};
 ghost use Rattle.tables.specs.Invariant.{Valid};
+
+// The longest list of demands.
+const LISTED: usize = 64;
 
 // What a stretch of calls leaves: the control, and a sum over the answers.
 pub struct Tally {
@@ -150,6 +156,15 @@ fn next(id: u32, n: u32) -> u32
 {
     let after = id + 1;
     if after < n { after } else { 0 }
+}
+
+// The next of n places likewise.
+fn after(i: usize, n: usize) -> usize
+    requires { ⌜ i < n ⌝ }
+    ensures { λ r. ⌜ r < n ⌝ }
+{
+    let more = i + 1;
+    if more < n { more } else { 0 }
 }
 
 fn packet(handle: u32, length: u32) -> Packet {
@@ -426,4 +441,66 @@ pub extern "C" fn bench_run(
         mode,
         rounds,
     ).sum
+}
+
+// All ids, by rising id.
+fn list_ids(listed: &mut [u32; LISTED])
+    ensures { λ r. ⌜ length (now (listed .exit)) ≡ length (now (listed .entry)) ⌝ }
+{
+    let mut id: u32 = 0;
+    while id < IDS {
+        listed[id as usize] = id;
+        id += 1;
+    }
+}
+
+// The rates of one list after the other, each with one demand that the list before it had not.
+fn fair_rounds(
+    listed: &[u32],
+    demands: &mut [u32],
+    rates: &mut [u32],
+    threshold: u32,
+    highest: u32,
+    rounds: u32,
+) -> u64
+    requires { ⌜ (1 ≤ length (now demands)) × (length (now demands) ≡ length (now rates)) × (1 ≤ highest) ⌝ }
+{
+    let mut sum: u64 = 0;
+    let mut i = 0;
+    let mut k: u32 = 0;
+    while k < rounds {
+        demands[i] = 1 + k % 1024 * 37 % highest;
+        let answer = maxmin::rates(threshold, listed, demands, rates);
+        sum = std::num::wrapping_add_u64(add(sum, answer), tables::wide(rates[i]));
+        i = after(i, demands.len());
+        k += 1;
+    }
+    sum
+}
+
+// Fair rates of lists of so many demands, none of them above the highest.
+#[no_mangle]
+pub extern "C" fn bench_fair(count: u32, threshold: u32, highest: u32, rounds: u32) -> u64 {
+    if IDS < count {
+        return 0;
+    }
+    if count < 1 {
+        return 0;
+    }
+    if highest < 1 {
+        return 0;
+    }
+    let n = count as usize;
+    let mut listed = [0; LISTED];
+    let mut demands = [1; LISTED];
+    let mut rates = [0; LISTED];
+    list_ids(&mut listed);
+    fair_rounds(
+        &listed[..n],
+        &mut demands[..n],
+        &mut rates[..n],
+        threshold,
+        highest,
+        rounds,
+    )
 }
