@@ -1,2 +1,3 @@
 pub mod DemandWalk
 pub mod RatesGiven
+pub mod FairlyShared
