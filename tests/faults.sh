@@ -1,13 +1,15 @@
 #!/bin/sh
 # Shows that the tests can fail: builds the second program with each fault of paper 01's list, with the plain remainder that S-1 of
-# paper 02 does away with, and with two wrong figures for S-14, and runs the tests on it.
+# paper 02 does away with, with two wrong figures for S-14 and with three faults against S-8, and runs the tests on it.
 #   tests/faults.sh BUILD    in the root of the repository, after the build of tests/run
 # `compare` and the long run must catch 1 to 6, `pairs` the first four (the others cannot be seen by pairs, see src/pairs.rs),
 # `stretches` 1 to 6 but 5b (which needs longer queues than fit a stretch). What a greedy client gets is wrong with 5 alone: the
 # other faults take no token from a client that meets no 14. The wrong figures, 7 and 7b, are in no printout: of these tests
 # `sure` alone sees them, and by the picks alone too, which have to be fewer than such a figure. It sees 3 to 5b as well, since
 # packets and levels are in the figure, but not by the picks: these are no fewer than those programs themselves are sure of. Who
-# is drawn (1, 2 and 6) is not in the figure.
+# is drawn (1, 2 and 6) is not in the figure. 8 to 8c are of the program `fair`: the test `fair` sees them, and the sentences alone do
+# too, each by another one. The three that are proved hold under 8, whose left shares go to the highest ids, and speak of no
+# refusal, so not of 8c, an empty list that is refused; the words of the request on who gets what is left, and on 22, do.
 # Prints a line for each; the printouts stay in BUILD/fault-N.
 build=$1 passed=0 failed=0
 
@@ -26,7 +28,7 @@ judge() { # fault, test, what was found, what should be, the test's own words
 try() { # fault, test, caught or not seen, the test's arguments
     fault=$1 test=$2 wanted=$3
     shift 3
-    "$build/$test" "$folder/slots" "$@" >"$folder/$test.txt"
+    "$build/$test" "$planted" "$@" >"$folder/$test.txt"
     case $? in
     0) judge "$fault" "$test" "not seen" "$wanted" "$(tail -n 1 "$folder/$test.txt")" ;;
     1) judge "$fault" "$test" caught "$wanted" "$(head -n 1 "$folder/$test.txt")" ;;
@@ -34,12 +36,27 @@ try() { # fault, test, caught or not seen, the test's arguments
     esac
 }
 
+# The same for a test's run without the second program: what it says first has to have these words in it.
+try_alone() { # fault, test, what to call it, caught or not seen, words, first seed, count
+    "$build/$2" "$planted" "$6" "$7" alone >"$folder/alone.txt"
+    case "$? $(head -n 1 "$folder/alone.txt")" in
+    "0 "*) judge "$1" "$3" "not seen" "$4" "$(tail -n 1 "$folder/alone.txt")" ;;
+    "1 "*"$5"*) judge "$1" "$3" caught "$4" "$(head -n 1 "$folder/alone.txt")" ;;
+    *) judge "$1" "$3" "not tried" "$4" "the test itself failed" ;;
+    esac
+}
+
+# Builds a program of the second program's with a fault in it.
+plant() { # fault, source, name
+    folder=$build/fault-$1 planted=$build/fault-$1/$3
+    rm -rf "$folder" && mkdir -p "$folder" && cp -r second/src "$folder/src" || exit 2
+    patch -s -p1 -d "$folder" <"second/faults/$1.patch" || exit 2
+    rustc -O --edition 2021 "$folder/src/$2.rs" -o "$planted" || exit 2
+}
+
 "$build/long" 1 3 >"$build/long.txt"
 for fault in 1 2 3 4 5 5b 6 7 7b; do
-    folder=$build/fault-$fault
-    rm -rf "$folder" && mkdir -p "$folder" && cp -r second/src "$folder/src" || exit 2
-    patch -s -p1 -d "$folder" <"second/faults/$fault.patch" || exit 2
-    rustc -O --edition 2021 "$folder/src/main.rs" -o "$folder/slots" || exit 2
+    plant $fault main slots
     in_printouts=caught scripts=2000 in_pairs=caught in_stretches=caught in_counts="not seen" in_figures=caught in_picks="not seen"
     case $fault in 5* | 6 | 7*) in_pairs="not seen" ;; esac
     case $fault in 5b | 7*) in_stretches="not seen" ;; 5) in_counts=caught ;; esac
@@ -48,12 +65,7 @@ for fault in 1 2 3 4 5 5b 6 7 7b; do
     try $fault pairs "$in_pairs" 1 300
     try $fault stretches "$in_stretches" 1 1
     try $fault sure "$in_figures" 1 300
-    "$build/sure" "$folder/slots" 1 100 alone >"$folder/picks.txt"
-    case "$? $(head -n 1 "$folder/picks.txt")" in
-    "0 "*) judge $fault "the picks alone" "not seen" "$in_picks" "$(tail -n 1 "$folder/picks.txt")" ;;
-    "1 "*fewer*) judge $fault "the picks alone" caught "$in_picks" "$(head -n 1 "$folder/picks.txt")" ;;
-    *) judge $fault "the picks alone" "not tried" "$in_picks" "the test itself failed" ;;
-    esac
+    try_alone $fault sure "the picks alone" "$in_picks" fewer 1 100
     case $fault in 7*) continue ;; esac # no long run asks for a figure
     for program in long greedy; do
         rustc -O --edition 2021 "$folder/src/$program.rs" -o "$folder/$program" || exit 2
@@ -67,6 +79,16 @@ for fault in 1 2 3 4 5 5b 6 7 7b; do
     elif tests/exact.sh <"$folder/greedy.txt" >"$folder/exact.txt"; then found="not seen"
     else found=caught; fi
     judge $fault "the count of a greedy client" "$found" "$in_counts" "$(cat "$folder/exact.txt")"
+done
+for fault in 8 8b 8c; do
+    plant $fault fair_main fair
+    case $fault in
+    8) words="what is left does not go by rising id" ;;
+    8b) words="the threshold is not used up" ;;
+    8c) words="refused without a reason" ;;
+    esac
+    try $fault fair caught 1 300
+    try_alone $fault fair "the sentences alone" caught "$words" 1 300
 done
 echo "$passed passed, $failed failed"
 [ "$failed" = 0 ]

@@ -1,38 +1,55 @@
-//! `cases SLOTS FILE..`: scripts beside the lines that the papers give for them, and whole texts round the limit of 60,000 bytes.
-//! The program under test and the second program are both held to what is written down.
+//! `cases SLOTS FAIR FILE..`: scripts and texts of demands beside the lines that the papers give for them, and whole texts round
+//! the limit of 60,000 bytes. The programs under test and the second program are held to what is written down.
 //!
-//! A line of a file is `LINE => ANSWER`, `N times LINE => ANSWER`, `LINE ~> ANSWER` (the last line of the text, without its line
-//! feed), empty, or a comment that begins with `#`. In LINE, \0, \t, \r, \\ and \xHH stand for a byte. `--sure N => ANSWER` is no
-//! line of the text: it asks for S-14's figure (paper 02) behind the lines above it, and ANSWER is all that is printed then.
+//! A line of a file of scripts is `LINE => ANSWER`, `N times LINE => ANSWER`, `LINE ~> ANSWER` (the last line of the text,
+//! without its line feed), empty, or a comment that begins with `#`. In LINE, \0, \t, \r, \\ and \xHH stand for a byte.
+//! `--sure N => ANSWER` is no line of the text: it asks for S-14's figure (paper 02) behind the lines above it, and ANSWER is all
+//! that is printed then.
+//!
+//! A file that ends in `.texts` has texts for FAIR (paper 02, S-8). Each goes up to the next empty line, and a line that prints
+//! nothing stands without an answer. `=> ANSWER` is no line of the text, but one that is printed for all of it.
 
 use tests::program;
 
+/// What is asked for: the printout of a script, the figure for so many ticks behind it, or the rates for a text of demands.
+enum Asked {
+    Printout,
+    Sure(u32),
+    Rates,
+}
+
 struct Case {
     name: String,
-    /// The N of `--sure N`; without it the printout is asked for.
-    sure: Option<u32>,
+    asked: Asked,
     text: Vec<u8>,
     expected: Vec<u8>,
 }
 
 fn main() {
     let arguments: Vec<String> = std::env::args().collect();
-    let slots = &arguments[1];
-    let mut cases: Vec<Case> = arguments[2..].iter().flat_map(|path| read(path)).collect();
+    let [_, slots, fair, paths @ ..] = &arguments[..] else {
+        eprintln!("use: cases SLOTS FAIR FILE..");
+        std::process::exit(2);
+    };
+    let of_file = |path: &String| if path.ends_with(".texts") { read_texts(path) } else { read(path) };
+    let mut cases: Vec<Case> = paths.iter().flat_map(of_file).collect();
     cases.extend(whole_texts());
     cases.extend(whole_texts_asked());
-    let failed = cases.iter().filter(|case| !holds(slots, case)).count();
+    cases.extend(whole_lists());
+    cases.extend(whole_texts_of_demands());
+    let failed = cases.iter().filter(|case| !holds(slots, fair, case)).count();
     println!("{} passed, {} failed", cases.len() - failed, failed);
     std::process::exit(if failed == 0 { 0 } else { 1 });
 }
 
 /// Both programs print what is expected.
-fn holds(slots: &str, case: &Case) -> bool {
-    let (run, second) = match case.sure {
-        None => (program::run(slots, &case.text), second::script::run(&case.text)),
-        Some(n) => (program::run_sure(slots, n, &case.text), second::script::sure(&case.text, n)),
+fn holds(slots: &str, fair: &str, case: &Case) -> bool {
+    let (who, run, second) = match case.asked {
+        Asked::Printout => ("slots", program::run(slots, &case.text), second::script::run(&case.text)),
+        Asked::Sure(n) => ("slots", program::run_sure(slots, n, &case.text), second::script::sure(&case.text, n)),
+        Asked::Rates => ("fair", program::run(fair, &case.text), second::fair::run(&case.text)),
     };
-    let first = run.ended_well && agrees("slots", &run.printout, case);
+    let first = run.ended_well && agrees(who, &run.printout, case);
     let second = agrees("second", &second, case);
     if first && second {
         let lines = case.expected.iter().filter(|&&byte| byte == b'\n').count();
@@ -55,14 +72,12 @@ fn agrees(who: &str, printed: &[u8], case: &Case) -> bool {
 
 /// A file of lines and answers, and what is asked for behind some of them.
 fn read(path: &str) -> Vec<Case> {
-    let content = std::fs::read_to_string(path).unwrap_or_else(|error| panic!("{path}: {error}"));
-    let mut case = Case { name: path.to_string(), sure: None, text: Vec::new(), expected: Vec::new() };
+    let content = content_of(path);
+    let mut case = Case { name: path.to_string(), asked: Asked::Printout, text: Vec::new(), expected: Vec::new() };
     let mut asked = Vec::new();
-    for (number, row) in (1..).zip(content.lines()).filter(|(_, row)| !row.is_empty() && !row.starts_with('#')) {
-        let (line, answer, closed) = match (row.split_once(" => "), row.split_once(" ~> ")) {
-            (Some((line, answer)), _) => (line, answer, true),
-            (None, Some((line, answer))) => (line, answer, false),
-            (None, None) => panic!("{path}: no answer in {row}"),
+    for (number, row) in rows(&content).filter(|(_, row)| !row.is_empty()) {
+        let Some((line, answer, closed)) = parts(row) else {
+            panic!("{path}: no answer in {row}");
         };
         if let Some(n) = line.strip_prefix("--sure ") {
             let n = second::script::number(n.as_bytes()).expect("a number of ticks");
@@ -71,22 +86,79 @@ fn read(path: &str) -> Vec<Case> {
         }
         let (times, line) = repeated(line);
         for _ in 0..times {
-            case.text.extend(bytes(line));
-            if closed {
-                case.text.push(b'\n');
-            }
-            case.expected.extend(answer.as_bytes());
-            case.expected.push(b'\n');
+            case.add_line(line, closed);
+            case.add_answer(answer);
         }
     }
     asked.insert(0, case);
     asked
 }
 
+impl Case {
+    fn add_line(&mut self, line: &str, closed: bool) {
+        self.text.extend(bytes(line));
+        if closed {
+            self.text.push(b'\n');
+        }
+    }
+
+    fn add_answer(&mut self, answer: &str) {
+        self.expected.extend(answer.as_bytes());
+        self.expected.push(b'\n');
+    }
+}
+
+fn content_of(path: &str) -> String {
+    std::fs::read_to_string(path).unwrap_or_else(|error| panic!("{path}: {error}"))
+}
+
+/// The lines of a file with their numbers, without the comments.
+fn rows(content: &str) -> impl Iterator<Item = (usize, &str)> {
+    (1..).zip(content.lines()).filter(|(_, row)| !row.starts_with('#'))
+}
+
+/// The two sides of a row, and whether a line feed closes the line; nothing if it has no answer.
+fn parts(row: &str) -> Option<(&str, &str, bool)> {
+    match (row.split_once(" => "), row.split_once(" ~> ")) {
+        (Some((line, answer)), _) => Some((line, answer, true)),
+        (None, Some((line, answer))) => Some((line, answer, false)),
+        (None, None) => None,
+    }
+}
+
+/// A file of texts of demands, each with what is printed for it.
+fn read_texts(path: &str) -> Vec<Case> {
+    let content = content_of(path);
+    let (mut cases, mut within): (Vec<Case>, bool) = (Vec::new(), false);
+    for (number, row) in rows(&content) {
+        if !row.is_empty() && !within {
+            cases.push(rates(&format!("{path}:{number}"), Vec::new(), ""));
+        }
+        within = !row.is_empty();
+        let Some(case) = cases.last_mut().filter(|_| within) else {
+            continue;
+        };
+        match (row.strip_prefix("=> "), parts(row)) {
+            (Some(answer), _) => case.add_answer(answer),
+            (None, Some((line, answer, closed))) => {
+                case.add_line(line, closed);
+                case.add_answer(answer);
+            }
+            (None, None) => case.add_line(row, true),
+        }
+    }
+    cases
+}
+
+/// A text of demands and all that is printed for it.
+fn rates(name: &str, text: Vec<u8>, expected: &str) -> Case {
+    Case { name: name.to_string(), asked: Asked::Rates, text, expected: expected.as_bytes().to_vec() }
+}
+
 /// The figure for n ticks behind a text: "the only line printed".
 fn question(place: &str, n: u32, text: &[u8], answer: &str) -> Case {
     let expected = format!("{answer}\n").into_bytes();
-    Case { name: format!("{place}, --sure {n}"), sure: Some(n), text: text.to_vec(), expected }
+    Case { name: format!("{place}, --sure {n}"), asked: Asked::Sure(n), text: text.to_vec(), expected }
 }
 
 /// `N times LINE` is the line N times.
@@ -126,7 +198,7 @@ fn bytes(line: &str) -> Vec<u8> {
 fn whole_texts() -> Vec<Case> {
     let case = |name: &str, text: Vec<u8>, expected: String| Case {
         name: name.to_string(),
-        sure: None,
+        asked: Asked::Printout,
         text,
         expected: expected.into_bytes(),
     };
@@ -160,5 +232,57 @@ fn whole_texts_asked() -> Vec<Case> {
         question("60,001 bytes", 7, &filled(60_001), "(refused 18)"),
         question("60,001 bytes without an open", 7, &vec![b'\n'; 60_001], "(refused 18)"),
         question("a million bytes", 0, &filled(1_000_000), "(refused 18)"),
+    ]
+}
+
+/// Lists of 63, 64 and 65 demands, too long to be written down. "a list over 64" is also one whose ids pass 63 or do not rise;
+/// "more demands than shares in the threshold" is not, and 22 comes for it with 64 demands and 63 shares.
+fn whole_lists() -> Vec<Case> {
+    let list = |threshold: u32, ids: &[u32]| -> Vec<u8> {
+        let demands: String = ids.iter().map(|id| format!("(demand {id} 1024)\n")).collect();
+        format!("(threshold {threshold})\n{demands}").into_bytes()
+    };
+    let rate = |share: &dyn Fn(u32) -> u32| -> String { (0..64).map(|id| format!("(rate {id} {})\n", share(id))).collect() };
+    let ids: Vec<u32> = (0..65).collect();
+    let last_twice: Vec<u32> = (0..65).map(|id: u32| id.min(63)).collect();
+    let too_large = [&list(1024, &ids)[..], b"(demand 65 4294967296)\n"].concat();
+    let refused = "(refused 22)\n";
+    vec![
+        rates("64 demands and 63 shares", list(63, &ids[..64]), refused),
+        rates("63 demands and 62 shares", list(62, &ids[..63]), refused),
+        rates("64 demands and 64 shares", list(64, &ids[..64]), &rate(&|_| 1)),
+        rates("64 demands and 65 shares", list(65, &ids[..64]), &rate(&|id| if id == 0 { 2 } else { 1 })),
+        rates("64 demands and 127 shares", list(127, &ids[..64]), &rate(&|id| if id == 63 { 1 } else { 2 })),
+        rates("64 demands and 1023 shares", list(1023, &ids[..64]), &rate(&|id| if id == 63 { 15 } else { 16 })),
+        rates("64 demands and 1024 shares", list(1024, &ids[..64]), &rate(&|_| 16)),
+        rates("65 demands, the last of 64", list(1024, &ids), refused),
+        rates("65 demands, the last two of 63", list(1024, &last_twice), refused),
+        rates("128 demands", list(1024, &ids[..64].repeat(2)), refused),
+        rates("65 demands, and too large a number", too_large, "(refused 17)\n"),
+    ]
+}
+
+/// 18 "comes before everything else", at both sides of the limit; an empty text has no first line.
+fn whole_texts_of_demands() -> Vec<Case> {
+    let threshold = b"(threshold 1024)\n";
+    let filled = |bytes: usize, line: &[u8]| -> Vec<u8> {
+        threshold.iter().chain(line.iter().cycle()).copied().take(bytes).collect()
+    };
+    // Behind the 17 bytes of the first line, 59,983 bytes are 3,157 lines of 19 bytes.
+    let demand = b"(demand 1000 1000)\n";
+    let number = |digits: usize| [b"(threshold ", "9".repeat(digits).as_bytes(), b")\n"].concat();
+    vec![
+        rates("an empty text", Vec::new(), "(refused 16)\n"),
+        rates("one line feed", b"\n".to_vec(), "(refused 16)\n"),
+        rates("60,000 bytes of demands", filled(60_000, demand), "(refused 22)\n"),
+        rates("60,001 bytes of demands", filled(60_001, demand), "(refused 18)\n"),
+        rates("59,999 bytes of demands", filled(59_999, demand), "(refused 16)\n"),
+        rates("60,000 bytes, most of them line feeds", filled(60_000, b"\n"), "(refused 16)\n"),
+        rates("60,001 bytes, most of them line feeds", filled(60_001, b"\n"), "(refused 18)\n"),
+        rates("a number of 59,987 digits", number(59_987), "(refused 17)\n"),
+        rates("a number of 59,988 digits", number(59_988), "(refused 18)\n"),
+        rates("65,536 bytes of demands", filled(65_536, demand), "(refused 18)\n"),
+        rates("65,537 bytes of demands", filled(65_537, demand), "(refused 18)\n"),
+        rates("a million bytes of demands", filled(1_000_000, demand), "(refused 18)\n"),
     ]
 }

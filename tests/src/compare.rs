@@ -96,10 +96,10 @@ fn main() {
     for step in 0..count {
         let seed = first.wrapping_add(step);
         let text = scripts::script(seed);
-        let wanted = expected(&text);
+        let wanted = expected(second::script::run, &text);
         if run(program, &text) != wanted {
             println!("seed {}: the printouts differ", seed);
-            report(program, &text);
+            report(program, second::script::run, &text);
             std::process::exit(1);
         }
         tally.add(&text, &wanted.printout);

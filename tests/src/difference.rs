@@ -1,22 +1,25 @@
-//! Scripts that a program prints otherwise than the second program, made small.
+//! Texts that a program prints otherwise than the second program, made small.
 
 use crate::lines;
 use crate::program::{run, shown, Run};
 use crate::shrink;
 
+/// The second program: what it prints for a script, or for the text of another of its programs.
+pub type Second = fn(&[u8]) -> Vec<u8>;
+
 /// What the second program makes of a text.
-pub fn expected(text: &[u8]) -> Run {
-    Run { printout: second::script::run(text), ended_well: true }
+pub fn expected(second: Second, text: &[u8]) -> Run {
+    Run { printout: second(text), ended_well: true }
 }
 
-/// The smallest script found that still differs: fewest lines, then fewest bytes in each line,
-/// then small numbers, and again, as smaller numbers may let lines go. The count of runs is
+/// The smallest text found of which `fails` still holds: fewest lines, then fewest bytes in each
+/// line, then small numbers, and again, as smaller numbers may let lines go. The count of tries is
 /// bounded, as a text past 60,000 bytes hardly shrinks.
-fn smallest(program: &str, text: &[u8]) -> Vec<u8> {
-    let mut runs_left = 10_000;
+pub fn smallest(text: &[u8], fails: &mut dyn FnMut(&[u8]) -> bool) -> Vec<u8> {
+    let mut tries_left = 10_000;
     let mut differs = |text: &[u8]| {
-        runs_left -= 1;
-        runs_left >= 0 && run(program, text) != expected(text)
+        tries_left -= 1;
+        tries_left >= 0 && fails(text)
     };
     let mut text = text.to_vec();
     loop {
@@ -47,7 +50,7 @@ fn fewer_bytes(text: &[u8], differs: &mut dyn FnMut(&[u8]) -> bool) -> Vec<u8> {
     lines.concat()
 }
 
-/// Puts 0, 1, a half or one less for each number, while the script still differs.
+/// Puts 0, 1, a half or one less for each number, while the text still differs.
 fn smaller_numbers(text: Vec<u8>, differs: &mut dyn FnMut(&[u8]) -> bool) -> Vec<u8> {
     let mut text = text;
     let mut place = 0;
@@ -70,14 +73,20 @@ fn smaller_numbers(text: Vec<u8>, differs: &mut dyn FnMut(&[u8]) -> bool) -> Vec
     text
 }
 
-/// Prints the smallest script found that still differs, with both printouts.
-pub fn report(program: &str, text: &[u8]) {
-    let small = smallest(program, text);
-    let (found, wanted) = (run(program, &small), expected(&small));
-    println!("smallest script, {} bytes:\n{}", small.len(), shown(&small));
+/// Prints the smallest text found that still differs, with both printouts.
+pub fn report(program: &str, second: Second, text: &[u8]) {
+    let differs = &mut |text: &[u8]| run(program, text) != expected(second, text);
+    let small = smallest(text, differs);
+    println!("smallest text, {} bytes:\n{}", small.len(), shown(&small));
+    print_run(program, &small);
+    println!("printout of the second program:\n{}", shown(&second(&small)));
+}
+
+/// Prints what a program makes of a text.
+pub fn print_run(program: &str, text: &[u8]) {
+    let found = run(program, text);
     println!("printout of {}:\n{}", program, shown(&found.printout));
     if !found.ended_well {
         println!("(it did not end well)");
     }
-    println!("printout of the second program:\n{}", shown(&wanted.printout));
 }

@@ -25,8 +25,8 @@ fn has_form(call: &Call) -> bool {
 
 /// Compares one stretch; ends the program if it differs.
 fn compare(program: &str, text: &[u8]) {
-    if program::run(program, text) != expected(text) {
-        report(program, text);
+    if program::run(program, text) != expected(second::script::run, text) {
+        report(program, second::script::run, text);
         std::process::exit(1);
     }
 }
