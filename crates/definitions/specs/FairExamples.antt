@@ -1,10 +1,12 @@
 -- Lists of demands and their rates, each worked out by hand: that the claims on fair rates are not empty, what their conditions
 -- are for, what is not claimed, and both sides of every limit of 22 (paper 02, S-8).
-use Prim.Native.Nat.{ℕ}
+use Prim.Native.Nat.{ℕ, _≤_}
 use mathlib.Core.Path.{_≡_}
 use mathlib.Core.Bool.{true, false}
 use mathlib.Core.List.{List, [], _∷_}
-use Rattle.definitions.specs.FairRates.{fairRates, acceptable}
+use lib.Dec.{T}
+use lib.ListN.{length}
+use Rattle.definitions.specs.FairRates.{fairRates, listedFrom, acceptable}
 
 -- rates that lists get which are accepted
 pub record FairThere : Type 0 where
@@ -37,6 +39,8 @@ pub record FairLimits : Type 0 where
   pub demand : (acceptable 1 (0 ∷ []) (0 ∷ []) ≡ false) × (acceptable 1 (0 ∷ []) (1 ∷ []) ≡ true)
   pub demandAbove : (acceptable 1 (0 ∷ []) (1024 ∷ []) ≡ true) × (acceptable 1 (0 ∷ []) (1025 ∷ []) ≡ false)
   pub shares : (acceptable 2 (4 ∷ 5 ∷ []) (1 ∷ 1 ∷ []) ≡ true) × (acceptable 1 (4 ∷ 5 ∷ []) (1 ∷ 1 ∷ []) ≡ false)
+  -- "a list over 64" is refused for its ids as well: 65 of them cannot rise and stay below 64
+  pub long : (is ds : List ℕ) → T (listedFrom 0 is ds) → length ds ≤ 64
   -- one id to a demand
   pub noId : acceptable 2 (4 ∷ []) (1 ∷ 1 ∷ []) ≡ false
   pub noDemand : acceptable 2 (4 ∷ 5 ∷ []) (1 ∷ []) ≡ false

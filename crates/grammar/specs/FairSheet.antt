@@ -1,7 +1,7 @@
 -- What `fair` prints for a text of demands (paper 02, S-8): a first line `(threshold T)` and then a line `(demand I D)` for each
 -- demand, spelt by the script's rules; for each a line `(rate I R)`, or one line that refuses the text.
 use Prim.Native.Nat.{ℕ}
-use mathlib.Core.Bool.{Bool, true, false, cond, _&&_}
+use mathlib.Core.Bool.{Bool, true, false, _&&_}
 use mathlib.Core.List.{List, [], _∷_, _++_, map}
 use mathlib.Core.Option.{Option, none, some}
 use lib.Dec.{ltb}

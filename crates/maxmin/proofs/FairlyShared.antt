@@ -1,19 +1,17 @@
 -- What is claimed of the fair rates holds of the code: where its answer accepts, the room begins with the rates of the
 -- definition. Assumes nothing.
-use Prim.Native.Nat.{ℕ, zero, _+_, _≤_, _<_}
+use Prim.Native.Nat.{ℕ, _+_, _≤_, _<_}
 use native.Mathlib.Omega.{arith}
-use mathlib.Core.Path.{_≡_, refl, sym, ap, _∙_}
+use mathlib.Core.Path.{_≡_, refl, ap, _∙_}
 use mathlib.Core.Bool.{Bool, true, false, _&&_}
-use mathlib.Core.List.{List, [], _∷_, _++_}
+use mathlib.Core.List.{List, _++_}
 use lib.Dec.{T, leb}
-use lib.ListN.{length, getD, take, drop, set, length-set, List·getD-append}
+use lib.ListN.{length, take, drop, set, length-set, List·getD-append}
 use lib.Seq.{sets-eq, take-at, drop-at}
 use borrow.Author.Tests.{leb-true}
-use Rattle.definitions.specs.declared.Answer.{Answer}
 use Rattle.definitions.specs.declared.Answer.the-variants.{Accepted, Refused}
 use Rattle.definitions.specs.FairRates.{fairRates, acceptable, fairAnswer}
 use Rattle.definitions.specs.Fairness.{at, Fair, AreFair, EveryServed, MoreForAll, OwnDemand}
-use Rattle.definitions.proofs.Laws.Tests.{and-both}
 use Rattle.definitions.proofs.Fairness.Claims.{are-fair, every-served, more-for-all, own-demand}
 use Rattle.maxmin.specs.Shared.{granted, roomAfter, Shared}
 use Rattle.maxmin.specs.CodeFair.{CodeFair}

@@ -1,7 +1,7 @@
 -- When rates are given, and what the room then holds. Assumes nothing.
 use Prim.Native.Nat.{ℕ, _-_, _≤_, _<_}
 use mathlib.Core.Path.{_≡_, _∙_}
-use mathlib.Core.Bool.{Bool, true, false, _&&_}
+use mathlib.Core.Bool.{true, false}
 use mathlib.Core.List.{List}
 use lib.Dec.{leb}
 use lib.ListN.{length}
@@ -10,7 +10,7 @@ use borrow.Author.Tests.{leb-true, le-leb, lt-leb}
 use Rattle.definitions.specs.declared.Answer.the-variants.{Accepted, Refused}
 use Rattle.definitions.specs.Sizes.{ids, shares}
 use Rattle.definitions.specs.Checks.{within}
-use Rattle.definitions.specs.FairRates.{cutSum, fairLevel, ratesAt, fairRates, listedFrom, acceptable}
+use Rattle.definitions.specs.FairRates.{cutSum, fairLevel, ratesAt, fairRates, acceptable}
 use Rattle.definitions.proofs.Laws.Tests.{and-both}
 use Rattle.definitions.proofs.Fairness.Level.{level-top, level-fits}
 use Rattle.maxmin.specs.Shared.{granted, roomAfter, Shared}

@@ -1,17 +1,16 @@
 -- What is claimed of the fair rates, from the laws of the level and of the rates at it. Assumes nothing.
 use Prim.Native.Nat.{ℕ, zero, suc, _+_, _-_, _≤_, _<_, min}
-use mathlib.Core.Path.{_≡_, refl, sym, ap, _∙_}
+use mathlib.Core.Path.{_≡_}
 use mathlib.Core.Logic.{_⊎_, inl, inr}
 use mathlib.Core.Bool.{_&&_}
 use mathlib.Core.List.{List, [], _∷_}
-use native.Mathlib.Nat.{mul-one}
 use native.Mathlib.Omega.{arith}
 use lib.Dec.{T, leb, ltb, leb→le}
 use lib.ListN.{length, getD, set, List·getD-eq-default}
 use lib.Seq.{getD-set-same}
 use Rattle.definitions.specs.Sizes.{ids, shares}
 use Rattle.definitions.specs.Checks.{within}
-use Rattle.definitions.specs.FairRates.{cutSum, fairLevel, ratesAt, fairRates, entryFits, listedFrom, acceptable}
+use Rattle.definitions.specs.FairRates.{cutSum, fairLevel, fairRates, entryFits, listedFrom, acceptable}
 use Rattle.definitions.specs.Fairness.{at, sum, AreFair, EveryServed, MoreForAll, OwnDemand}
 use Rattle.definitions.proofs.Laws.Tests.{T-true, T-and, lt-cases, within-true}
 use Rattle.definitions.proofs.Fairness.Level.{cutSum-bound, cutSum-more, cutSum-set}
@@ -34,6 +33,19 @@ listed-range lowest (i ∷ is) (d ∷ ds) zero listed here =
     within-true 1 shares d (T-true (T-and (within 1 shares d) (leb lowest i && ltb i ids) entry .0))
 listed-range lowest (i ∷ is) (d ∷ ds) (suc k) listed here =
     listed-range (suc i) is ds k (T-and (entryFits lowest i d) (listedFrom (suc i) is ds) listed .1) (omega arith)
+
+-- ids that rise leave room for as many demands as there are above the lowest
+pub listed-length : (lowest : ℕ) (is ds : List ℕ) → T (listedFrom lowest is ds) → lowest ≤ ids → lowest + length ds ≤ ids
+unfolding listedFrom entryFits
+listed-length lowest [] [] listed low = omega arith
+listed-length lowest [] (d ∷ ds) listed low = absurd listed
+listed-length lowest (i ∷ is) [] listed low = absurd listed
+listed-length lowest (i ∷ is) (d ∷ ds) listed low =
+    let both = T-and (entryFits lowest i d) (listedFrom (suc i) is ds) listed in
+    let order = T-and (leb lowest i) (ltb i ids) (T-and (within 1 shares d) _ (both .0) .1) in
+    let rises = leb→le lowest i (order .0) in
+    let stays = leb→le (suc i) ids (order .1) in
+    omega (arith, listed-length (suc i) is ds (both .1) stays)
 
 module _ (threshold : ℕ) (is ds : List ℕ) (ok : T (acceptable threshold is ds)) where
   parts : T (leb (length ds) threshold) × T (listedFrom 0 is ds)

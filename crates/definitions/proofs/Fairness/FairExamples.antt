@@ -1,10 +1,12 @@
 -- The examples beside the claims on fair rates, computed. Assumes nothing.
 use mathlib.Core.Path.{refl}
+use native.Mathlib.Omega.{arith}
 use Rattle.definitions.specs.Sizes.{ids, shares}
 use Rattle.definitions.specs.Checks.{within}
 use Rattle.definitions.specs.FairRates.{cutSum, fits, largestUpTo, fairLevel, extra, ratesAt, fairRates}
 use Rattle.definitions.specs.FairRates.{entryFits, listedFrom, acceptable}
 use Rattle.definitions.specs.FairExamples.{FairThere, FairNeeded, FairLimits}
+use Rattle.definitions.proofs.Fairness.Claims.{listed-length}
 
 pub fair-there : FairThere
 unfolding ids shares within cutSum fits largestUpTo fairLevel extra ratesAt fairRates entryFits listedFrom acceptable
@@ -31,6 +33,7 @@ fair-limits = record {
   demand = (refl, refl);
   demandAbove = (refl, refl);
   shares = (refl, refl);
+  long = λ is ds listed. omega (arith, listed-length 0 is ds listed (omega arith));
   noId = refl;
   noDemand = refl;
 }

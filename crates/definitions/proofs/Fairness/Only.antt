@@ -1,7 +1,7 @@
 -- Fair rates are determined. Of two lists with the same sum that differ, each has more somewhere; and who has less in one is
 -- not served there, so the other's more is a share, for which the order decides. Assumes nothing.
 use Prim.Native.Nat.{ℕ, zero, suc, _+_, _≤_, _<_}
-use mathlib.Core.Path.{_≡_, refl, sym, ap, _∙_}
+use mathlib.Core.Path.{_≡_, sym, ap, _∙_}
 use mathlib.Core.Logic.{_⊎_, inl, inr}
 use mathlib.Core.List.{List, [], _∷_}
 use native.Mathlib.Nat.{suc-inj}

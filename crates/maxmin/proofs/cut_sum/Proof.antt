@@ -1,9 +1,9 @@
 -- `maxmin::cut_sum` meets its contract. The invariant: with what the demands from `i` on come to, the sum is the whole. Assumes
 -- nothing.
 use borrow.Author.Needs.{needs}
-use Prim.Native.Nat.{ℕ, _+_, _-_, _≤_, zero-le}
+use Prim.Native.Nat.{_+_, _-_, _≤_, zero-le}
 use native.Mathlib.Omega.{arith}
-use mathlib.Core.Path.{_≡_, refl}
+use mathlib.Core.Path.{_≡_}
 use lib.ListN.{length, drop}
 use Rattle.definitions.specs.Sizes.{ids, shares}
 use Rattle.definitions.specs.FairRates.{cutSum}

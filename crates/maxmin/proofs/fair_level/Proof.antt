@@ -1,10 +1,10 @@
 -- `maxmin::fair_level` meets its contract. The invariant: the demands fit at `level`, and not at `above`, unless that is past the
 -- highest. Assumes nothing.
 use borrow.Author.Needs.{needs}
-use Prim.Native.Nat.{ℕ, suc, _+_, _-_, _/_, _≤_, _<_}
+use Prim.Native.Nat.{suc, _+_, _-_, _/_, _≤_, _<_}
 use native.Mathlib.Omega.{arith}
 use mathlib.Core.Path.{_≡_, sym}
-use Rattle.definitions.specs.Sizes.{ids, shares}
+use Rattle.definitions.specs.Sizes.{shares}
 use Rattle.definitions.specs.FairRates.{cutSum}
 use Rattle.definitions.proofs.Fairness.Level.{cutSum-zero, level-is}
 use Rattle.maxmin.proofs.fair_level.Statement.{statement}
