@@ -1,8 +1,8 @@
 // The forecast behind a script (paper 02, S-14, "a figure for leases"): the script is carried out, its answers are dropped, and
 // one line tells of how many picks the private side is then sure in the next ticks.
+use grammar::TEXT_LIMIT;
 use order::LINKS;
 use script::Progress;
-use script::TEXT_LIMIT;
 use tables::Control;
 use tables::STOCKS;
 use tables::STORE;

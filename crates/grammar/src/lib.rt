@@ -1,6 +1,9 @@
 // What a line of the script holds. The grammar and the printout stand in specs/.
 use definitions::Packet;
 
+// The longest text that is read. For the proofs it stands in specs/Bytes.antt, and where the two disagree a proof fails.
+pub const TEXT_LIMIT: usize = 60000;
+
 // The calls that a form may stand for, with their arguments in the order of the paper. Any number may stand anywhere.
 pub enum Call {
     Open {

@@ -1,6 +1,7 @@
 // A script in pieces: from a place on, each line is parsed, carried out and answered by one printed line.
 use grammar::Call;
 use grammar::Line;
+use grammar::TEXT_LIMIT;
 use order::LINKS;
 use tables::Answered;
 use tables::Control;
@@ -20,9 +21,6 @@ ghost use Rattle.tables.specs.Invariant.{Valid};
 ghost use Rattle.tables.specs.Places.{Promised};
 ghost use Rattle.script.specs.UnreadLine.{unreadNumber};
 ghost use Rattle.script.specs.Pieces.{Walked, Piece, Start};
-
-// The longest text that is read.
-pub const TEXT_LIMIT: usize = 60000;
 
 // What bytes that are no form are answered with, and a text that is too long.
 const NO_FORM: u32 = 16;
