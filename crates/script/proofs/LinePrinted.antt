@@ -3,8 +3,8 @@ use Prim.Native.Nat.{ℕ, suc, _+_, _-_, _≤_, _<_}
 use mathlib.Core.Path.{_≡_, sym, ap, _∙_}
 use mathlib.Core.List.{List, [], _∷_, _++_, append-assoc, append-nil}
 use native.Mathlib.Omega.{arith}
-use lib.ListN.{length, getD, take, drop, length-drop, take-append-drop, drop-of-length-le}
-use lib.Seq.{drop-cons, drop-drop, take-add, take-all, take-nil}
+use lib.ListN.{length, getD, take, drop, length-drop, drop-of-length-le}
+use lib.Seq.{drop-cons, take-all, take-nil}
 use Rattle.definitions.specs.declared.Answer.the-variants.{Refused}
 use Rattle.definitions.specs.State.{Core}
 use Rattle.grammar.specs.Bytes.{lineFeed, Unbroken}
@@ -12,6 +12,7 @@ use Rattle.grammar.specs.Grammar.{parsed}
 use Rattle.grammar.specs.Printout.{printed, answered, printedFrom, coreFrom}
 use Rattle.grammar.proofs.Lines.{line-closed, line-open, core-closed, core-open}
 use Rattle.reader.specs.LineSpans.{between}
+use Rattle.reader.proofs.LinesAhead.{split-closed, between-closed}
 use Rattle.script.specs.Pieces.{ahead, coreBehind}
 
 -- nothing is ahead behind the last byte
@@ -32,29 +33,10 @@ core-past core text at upto past =
 
 -- where a line feed closes a line
 module _ (text : List ℕ) (at end : ℕ) (forth : at ≤ end) (inside : end < length text) (feed : getD text end 0 ≡ lineFeed) where
-  from-feed : drop (end - at) (drop at text) ≡ lineFeed ∷ drop (suc end) text
-  from-feed =
-      let whole : at + (end - at) ≡ end = omega arith in
-      drop-drop (end - at) at text
-      ∙ ap (λ (n : ℕ). drop n text) whole
-      ∙ drop-cons text end 0 inside
-      ∙ ap (λ (b : ℕ). b ∷ drop (suc end) text) feed
-
-  split-closed : drop at text ≡ between text at end ++ lineFeed ∷ drop (suc end) text
-  split-closed =
-      sym (take-append-drop (end - at) (drop at text)) ∙ ap (λ (l : List ℕ). between text at end ++ l) from-feed
-
-  between-closed : (upto : ℕ) → end < upto → between text at upto ≡ between text at end ++ lineFeed ∷ between text (suc end) upto
-  between-closed upto past =
-      let count : upto - at ≡ (end - at) + suc (upto - suc end) = omega arith in
-      ap (λ (n : ℕ). take n (drop at text)) count
-      ∙ take-add (end - at) (suc (upto - suc end)) (drop at text)
-      ∙ ap (λ (l : List ℕ). between text at end ++ take (suc (upto - suc end)) l) from-feed
-
   pub closed-core : (core : Core) → Unbroken (between text at end) → (upto : ℕ) → suc end ≤ upto
       → coreBehind (answered core (parsed (between text at end)) .core) text (suc end) upto ≡ coreBehind core text at upto
   closed-core core whole upto past =
-      sym (ap (coreFrom core []) (between-closed upto past)
+      sym (ap (coreFrom core []) (between-closed text at end forth inside feed upto past)
       ∙ core-closed core (between text at end) (between text (suc end) upto) whole)
 
 -- bytes that no line feed closes leave the core
