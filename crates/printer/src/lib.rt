@@ -16,7 +16,7 @@ ghost use Rattle.printer.specs.Appended.{Appended};
 ghost use Rattle.printer.specs.Printed.{lineRoom, LineWritten, Printed, wordRoom, pairLine};
 
 // The room that a line is given. No line of numbers of 32 bits is longer.
-const LINE_ROOM: usize = 64;
+pub const LINE_ROOM: usize = 64;
 
 const ZERO: u32 = 48;
 

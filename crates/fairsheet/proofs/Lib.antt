@@ -1,0 +1,5 @@
+pub mod PairsFound
+pub mod RowsRead
+pub mod SheetsRead
+pub mod RateRoom
+pub mod SheetTold

@@ -1,0 +1,68 @@
+-- The lines of rates, written one by one: each has room behind those before it, since no line is longer than the room of a line.
+-- Assumes nothing.
+use Prim.Native.Nat.{ℕ, suc, _+_, _*_, _^_, _≤_, _<_}
+use mathlib.Core.Path.{_≡_, refl, sym, ap, _∙_}
+use mathlib.Core.List.{List, [], _∷_, _++_, append-assoc, append-nil}
+use native.Mathlib.Omega.{arith}
+use native.Mathlib.Numerals.{add-one}
+use lib.ListN.{length, getD, take, drop, drop-of-length-le}
+use lib.Seq.{drop-cons}
+use Rattle.definitions.specs.Sizes.{ids}
+use Rattle.grammar.specs.Bytes.{bytes}
+use Rattle.grammar.specs.FairSheet.{rateLine, rateLines}
+use Rattle.printer.specs.Appended.{Appended}
+use Rattle.printer.specs.Printed.{lineRoom, LineWritten}
+use Rattle.printer.proofs.Appending.{appended-front, appended-length}
+use Rattle.printer.proofs.FilledLength.{filled-length}
+use Rattle.fairsheet.specs.Written.{sheetRoom, Begins}
+
+rateLine-length : (id rate : ℕ) → id < 2 ^ 32 → rate < 2 ^ 32 → length (rateLine id rate) ≤ lineRoom
+unfolding rateLine
+rateLine-length id rate small small′ =
+    omega (arith, filled-length (bytes "(rate # #)\n") (id ∷ rate ∷ []) (small, (small′, tt)))
+
+rateLines-first : (listed rates : List ℕ) (i : ℕ) → i < length listed → i < length rates
+    → rateLines (drop i listed) (drop i rates)
+    ≡ rateLine (getD listed i 0) (getD rates i 0) ++ rateLines (drop (suc i) listed) (drop (suc i) rates)
+unfolding rateLines
+rateLines-first listed rates i inside inside′ = rw (drop-cons listed i 0 inside, drop-cons rates i 0 inside′)
+
+-- the lines so far, and those that are left
+pub record LinesPut (listed rates before out : List ℕ) (at i : ℕ) : Type 0 where
+  pub same : length out ≡ length before
+  pub upto : i ≤ length listed
+  pub room : at ≤ i * lineRoom
+  pub told : take at out ++ rateLines (drop i listed) (drop i rates) ≡ rateLines listed rates
+
+pub put-none : (listed rates before : List ℕ) → LinesPut listed rates before before 0 0
+put-none listed rates before = record { same = refl; upto = omega arith; room = omega arith; told = refl }
+
+module _ {listed rates before out : List ℕ} {at i : ℕ} (l : LinesPut listed rates before out at i)
+    (few : length listed ≤ ids) (space : sheetRoom ≤ length before) where
+  pub put-more : (i < length listed) → (i < length rates) → getD listed i 0 < 2 ^ 32 → getD rates i 0 < 2 ^ 32
+      → {out′ : List ℕ} {end : ℕ} → LineWritten (rateLine (getD listed i 0) (getD rates i 0)) out at out′ end
+      → LinesPut listed rates before out′ end (i + 1)
+  put-more inside inside′ small small′ {out′} {end} w =
+      let line = rateLine (getD listed i 0) (getD rates i 0) in
+      let a : Appended line out at out′ end = w .written (omega (arith, l .room, l .same)) in
+      record {
+        same = appended-length a ∙ l .same;
+        upto = omega arith;
+        room = omega (arith, l .room, a .place, rateLine-length (getD listed i 0) (getD rates i 0) small small′);
+        told =
+            rw add-one
+            (ap (λ (front : List ℕ). front ++ rateLines (drop (suc i) listed) (drop (suc i) rates)) (appended-front a)
+            ∙ append-assoc (take at out) line (rateLines (drop (suc i) listed) (drop (suc i) rates))
+            ∙ ap (λ (rest : List ℕ). take at out ++ rest) (sym (rateLines-first listed rates i inside inside′))
+            ∙ l .told);
+      }
+
+  pub put-done : length listed ≤ i → Begins (rateLines listed rates) out at
+  unfolding rateLines
+  put-done past = record {
+    told =
+        sym (append-nil (take at out))
+        ∙ ap (λ (is : List ℕ). take at out ++ rateLines is (drop i rates)) (sym (drop-of-length-le listed past))
+        ∙ l .told;
+    fits = omega (arith, l .room, l .upto, l .same);
+  }

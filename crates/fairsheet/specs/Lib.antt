@@ -1,0 +1,3 @@
+-- What reading a text of demands gives, and what is then written.
+pub mod SheetRead
+pub mod Written
