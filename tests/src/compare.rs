@@ -3,6 +3,7 @@
 
 use second::core::{Answer, Call, Core, Outcome, INDIFFERENT};
 use second::script::{parse, Line};
+use tests::arguments::Arguments;
 use tests::difference::{expected, report};
 use tests::program::run;
 use tests::scripts;
@@ -85,16 +86,10 @@ fn is_indifferent(core: &Core, id: u32) -> bool {
 }
 
 fn main() {
-    let arguments: Vec<String> = std::env::args().collect();
-    let [_, program, first, count] = &arguments[..] else {
-        eprintln!("use: compare SLOTS FIRST_SEED COUNT");
-        std::process::exit(2);
-    };
-    let first: u64 = first.parse().expect("FIRST_SEED is a number");
-    let count: u64 = count.parse().expect("COUNT is a number");
+    let arguments = Arguments::read("compare SLOTS FIRST_SEED COUNT");
+    let program = &arguments.program;
     let mut tally = Tally { numbers: [0; 20], outcomes: [0; 5], lines: 0, bytes: 0 };
-    for step in 0..count {
-        let seed = first.wrapping_add(step);
+    for seed in arguments.seeds() {
         let text = scripts::script(seed);
         let wanted = expected(second::script::run, &text);
         if run(program, &text) != wanted {
@@ -107,9 +102,9 @@ fn main() {
     let complete = tally.print();
     println!(
         "compared {} scripts, {} lines, {} bytes: no difference",
-        count, tally.lines, tally.bytes
+        arguments.count, tally.lines, tally.bytes
     );
-    if count >= ENOUGH && !complete {
+    if arguments.count >= ENOUGH && !complete {
         println!("but not every number and outcome came up");
         std::process::exit(1);
     }

@@ -7,6 +7,7 @@
 //!
 //! With `alone` the second program is not asked: what fails then is a sentence.
 
+use tests::arguments::Arguments;
 use tests::demands::{self, List, MAKERS, OVER_64, REASONS};
 use tests::difference::{print_run, smallest};
 use tests::program::{run, shown};
@@ -278,31 +279,21 @@ fn report(program: &str, seed: u64, text: &[u8], words: &str, alone: bool) {
 }
 
 fn main() {
-    let arguments: Vec<String> = std::env::args().collect();
-    let (program, first, count, alone) = match &arguments[1..] {
-        [program, first, count] => (program, first, count, false),
-        [program, first, count, word] if word == "alone" => (program, first, count, true),
-        _ => {
-            eprintln!("use: fair FAIR FIRST_SEED COUNT [alone]");
-            std::process::exit(2);
-        }
-    };
-    let first: u64 = first.parse().expect("FIRST_SEED is a number");
-    let count: u64 = count.parse().expect("COUNT is a number");
+    let arguments = Arguments::read("fair FAIR FIRST_SEED COUNT [alone]");
+    let program = &arguments.program;
     let mut tally = Tally { kinds: [0; 12], reasons: [0; 6], makers: [0; 20], texts: 0, bytes: 0 };
-    for step in 0..count {
-        let seed = first.wrapping_add(step);
+    for seed in arguments.seeds() {
         let (maker, text) = demands::text(seed);
-        match hold(program, seed, &text, alone) {
+        match hold(program, seed, &text, arguments.alone) {
             Ok(held) => tally.add(maker, &held),
             Err(words) => {
-                report(program, seed, &text, &words, alone);
+                report(program, seed, &text, &words, arguments.alone);
                 std::process::exit(1);
             }
         }
     }
-    let complete = tally.print(alone);
-    if count >= ENOUGH && !complete {
+    let complete = tally.print(arguments.alone);
+    if arguments.count >= ENOUGH && !complete {
         println!("but not everything that is counted came up");
         std::process::exit(1);
     }

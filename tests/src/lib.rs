@@ -1,5 +1,6 @@
 //! What the test programs share.
 
+pub mod arguments;
 pub mod demands;
 pub mod difference;
 pub mod history;

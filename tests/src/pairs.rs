@@ -8,6 +8,7 @@
 //! no bucket to refill or to take from, and a change of type gives a full one), so both histories
 //! of a pair go wrong in the same way. The plain remainder is no leak either. `compare` sees them.
 
+use tests::arguments::Arguments;
 use tests::history::{History, Seen};
 use tests::history;
 use tests::pair::{Pair, Side};
@@ -50,16 +51,10 @@ fn report(program: &str, seed: u64, pair: &Pair, words: &str) {
 }
 
 fn main() {
-    let arguments: Vec<String> = std::env::args().collect();
-    let [_, program, first, count] = &arguments[..] else {
-        eprintln!("use: pairs PROGRAM FIRST_SEED COUNT");
-        std::process::exit(2);
-    };
-    let first: u64 = first.parse().expect("FIRST_SEED is a number");
-    let count: u64 = count.parse().expect("COUNT is a number");
+    let arguments = Arguments::read("pairs PROGRAM FIRST_SEED COUNT");
+    let program = &arguments.program;
     let mut seen = Seen::new();
-    for step in 0..count {
-        let seed = first.wrapping_add(step);
+    for seed in arguments.seeds() {
         let pair = Pair::from_seed(seed);
         assert!(pair.agrees(), "seed {} gives no pair", seed);
         if let Some(words) = difference(program, &pair, &mut seen) {
@@ -70,9 +65,9 @@ fn main() {
     let complete = seen.print();
     println!(
         "compared {} pairs, {} kept calls, {} struck out: no difference",
-        count, seen.kept_calls, seen.struck_out
+        arguments.count, seen.kept_calls, seen.struck_out
     );
-    if count >= ENOUGH && !complete {
+    if arguments.count >= ENOUGH && !complete {
         println!("but not everything that is compared came up");
         std::process::exit(1);
     }

@@ -10,6 +10,7 @@
 
 use second::core::{Call, Core, INDIFFERENT, PRIVATE};
 use second::script::{parse, Line};
+use tests::arguments::Arguments;
 use tests::history::{id_of, printed_lines, slot};
 use tests::program::{run, run_sure, shown, Run};
 use tests::random::Random;
@@ -237,23 +238,14 @@ fn one_seed(program: &str, seed: u64, alone: bool, tally: &mut Tally) {
 }
 
 fn main() {
-    let arguments: Vec<String> = std::env::args().collect();
-    let (program, first, count, alone) = match &arguments[1..] {
-        [program, first, count] => (program, first, count, false),
-        [program, first, count, word] if word == "alone" => (program, first, count, true),
-        _ => {
-            eprintln!("use: sure SLOTS FIRST_SEED COUNT [alone]");
-            std::process::exit(2);
-        }
-    };
-    let first: u64 = first.parse().expect("FIRST_SEED is a number");
-    let count: u64 = count.parse().expect("COUNT is a number");
+    let arguments = Arguments::read("sure SLOTS FIRST_SEED COUNT [alone]");
+    let program = &arguments.program;
     let mut tally = Tally { counts: [0; KINDS.len()], scripts: 0, stretches: 0, ticks: 0 };
-    for step in 0..count {
-        one_seed(program, first.wrapping_add(step), alone, &mut tally);
+    for seed in arguments.seeds() {
+        one_seed(program, seed, arguments.alone, &mut tally);
     }
-    let complete = tally.print(alone);
-    let compared = match alone {
+    let complete = tally.print(arguments.alone);
+    let compared = match arguments.alone {
         true => String::new(),
         false => format!(", and compared the figures of {} scripts", tally.scripts),
     };
@@ -261,7 +253,7 @@ fn main() {
         "held {} stretches against the figure, {} ticks{}: none was fewer",
         tally.stretches, tally.ticks, compared
     );
-    if count >= ENOUGH && !complete {
+    if arguments.count >= ENOUGH && !complete {
         println!("but not everything that is counted came up");
         std::process::exit(1);
     }
