@@ -57,7 +57,7 @@ static const sequence sequences[] = {
     LISTS("fair rates of 8 demands", 8, 1024, 1024),
     LISTS("fair rates of 64 demands", 64, 1024, 1024),
     LISTS("fair rates of 64 demands, a share each", 64, 64, 1024),
-    LISTS("fair rates of 64 demands, all met", 64, 1024, 16),
+    LISTS("fair rates of 64 demands, all met", 64, 1024, 15),
 };
 enum { SEQUENCES = sizeof sequences / sizeof sequences[0] };
 

@@ -1,4 +1,5 @@
-/* The slot core of a shared gateway (paper 01, with S-1 of paper 02), and the fair rates of S-8, in plain C: the yardstick of the benchmark.
+/* The slot core of a shared gateway (paper 01, with S-1 of paper 02) and the fair rates of S-8, in plain C: the yardstick of the
+   benchmark.
    Every call but tick answers 0 for accepted or the number of the first check that failed. */
 #ifndef PLAIN_H
 #define PLAIN_H

@@ -14,8 +14,7 @@ uint64_t plain_run(uint32_t privates, uint32_t indifferents, uint32_t discipline
 uint64_t bench_run(uint32_t privates, uint32_t indifferents, uint32_t discipline, uint32_t depth,
                    uint32_t mode, uint32_t rounds);
 
-/* Fair rates of lists of so many demands, one list after the other, each with one demand that the list before it had not. Both
-   give the same number. count is 1 to 64, highest at least 1. */
+/* Fair rates of lists of so many demands, one list after the other, each with one demand set anew. Both give the same number. count is 1 to 64, highest at least 1. */
 uint64_t plain_fair(uint32_t count, uint32_t threshold, uint32_t highest, uint32_t rounds);
 uint64_t bench_fair(uint32_t count, uint32_t threshold, uint32_t highest, uint32_t rounds);
 

@@ -108,7 +108,7 @@ of "with --sure, " slots "$slots --sure 7" $folder/asked $folder/figure "(tick)"
 surroundings
 check "the first n and the last are asked for as any other, and nothing is written to standard error" \
     'for n in 0 1 9 10 4294967295; do [ "$($slots --sure $n <$input 2>&1)" = "(sure $n $n)" ] || exit 1; done'
-# S-8 of paper 02. What it prints fits the buffers of any output, so none fills up on the way or closes early.
+# S-8 of paper 02. It prints less than a thousand bytes, in one write: an output that fills up on the way, or closes early, is not tried.
 of "fair: " fair "$fair" examples/floor.demands examples/floor.rates "(demand 1 1)"
 surroundings
 check "any argument gets the line of usage, and nothing is read or printed" any_argument

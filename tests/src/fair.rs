@@ -2,7 +2,7 @@
 //!
 //! For each seed a text goes through the program FAIR and through the second program, and every
 //! byte is compared. Then what FAIR printed is held against the sentences of the request and two
-//! that follow from them: a larger threshold takes from nobody, and who demands more gets no less.
+//! more: a larger threshold takes from nobody, and raising one's own demand does not lower one's rate.
 //! For these the program is run again with such a text.
 //!
 //! With `alone` the second program is not asked: what fails then is a sentence.
@@ -229,7 +229,7 @@ fn try_raised(program: &str, seed: u64, list: &List, rates: &[u32]) -> Result<()
     let with = |words: String| format!("with a demand of {} for {}: {}", demand, id, words);
     let given = rates_of(&raised, &run(program, &raised.text()).printout).map_err(with)?;
     match given[place] < rates[place] {
-        true => Err(with("who demands more gets less".to_string())),
+        true => Err(with("a demand that is raised gets less".to_string())),
         false => Ok(()),
     }
 }
@@ -281,7 +281,13 @@ fn report(program: &str, seed: u64, text: &[u8], words: &str, alone: bool) {
 fn main() {
     let arguments = Arguments::read("fair FAIR FIRST_SEED COUNT [alone]");
     let program = &arguments.program;
-    let mut tally = Tally { kinds: [0; 12], reasons: [0; 6], makers: [0; 20], texts: 0, bytes: 0 };
+    let mut tally = Tally {
+        kinds: [0; KINDS.len()],
+        reasons: [0; REASONS.len()],
+        makers: [0; MAKERS.len()],
+        texts: 0,
+        bytes: 0,
+    };
     for seed in arguments.seeds() {
         let (maker, text) = demands::text(seed);
         match hold(program, seed, &text, arguments.alone) {

@@ -15,7 +15,7 @@ ghost use Rattle.tables.specs.Tables.{tables};
 ghost use Rattle.tables.specs.Invariant.{Valid};
 
 // The longest list of demands.
-const LISTED: usize = 64;
+const LISTED: usize = IDS as usize;
 
 // What a stretch of calls leaves: the control, and a sum over the answers.
 pub struct Tally {
@@ -454,7 +454,7 @@ fn list_ids(listed: &mut [u32; LISTED])
     }
 }
 
-// The rates of one list after the other, each with one demand that the list before it had not.
+// The rates of one list after the other, each with one demand set anew.
 fn fair_rounds(
     listed: &[u32],
     demands: &mut [u32],

@@ -63,6 +63,7 @@ unfoldable pub acceptable : ℕ → List ℕ → List ℕ → Bool
 acceptable threshold is ds =
     within 1 shares threshold && (leb (length ds) ids && (leb (length ds) threshold && listedFrom 0 is ds))
 
+-- the answer for a list that is accepted, or is not
 abbrev pub fairAnswer : Bool → Answer
 fairAnswer true = Accepted
 fairAnswer false = Refused 22

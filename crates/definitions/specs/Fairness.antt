@@ -1,7 +1,7 @@
 -- What is claimed of the fair rates (paper 02, S-8), over every list that is accepted. "Proved: no demand is exceeded; the
 -- threshold is used up unless all demands are met; and whoever got less than demanded has at most one share less than anyone
--- else." And beyond the request: these, with the order by rising id, leave no choice; every demand gets a share; a larger
--- threshold takes from nobody; and who demands more gets no less.
+-- else." And beyond the request: these leave no choice, with the order by rising id and that the rates fit the threshold; every
+-- demand gets a share; a larger threshold takes from nobody; raising one's own demand never lowers one's own rate.
 use Prim.Native.Nat.{ℕ, _+_, _≤_, _<_}
 use mathlib.Core.Path.{_≡_}
 use mathlib.Core.Logic.{_⊎_}

@@ -18,7 +18,7 @@ pub mod Event
 pub mod Calls
 pub mod Tick
 pub mod Core
--- what is claimed: of all histories, of a draw, and case by case
+-- what is claimed: of all histories, of a draw, and case by case; and fair rates, with what is claimed of them
 pub mod History
 pub mod Sameness
 pub mod Limits

@@ -7,35 +7,30 @@ use mathlib.Core.List.{List, [], _∷_, _++_}
 use mathlib.Core.Option.{Option, none, some}
 use native.Mathlib.Omega.{arith}
 use lib.Dec.{leb}
-use lib.ListN.{length, take, drop, length-map}
-use lib.Seq.{sets-eq}
+use lib.ListN.{length, take, length-map}
 use borrow.Author.Tests.{le-leb, lt-leb, lt-ltb, le-ltb}
 use Rattle.definitions.specs.declared.Answer.{Answer}
 use Rattle.definitions.specs.declared.Answer.the-variants.{Accepted, Refused}
 use Rattle.definitions.specs.Sizes.{ids, shares}
 use Rattle.definitions.specs.Checks.{within}
 use Rattle.definitions.specs.FairRates.{fairRates, acceptable, fairAnswer}
-use Rattle.definitions.proofs.Fairness.RatesAtLevel.{rates-length}
-use Rattle.definitions.proofs.Laws.Tests.{eqb-cases, true-false, and-both}
+use Rattle.definitions.proofs.Laws.Tests.{T-true, eqb-cases, true-false, and-both}
 use Rattle.grammar.specs.Bytes.{textLimit}
 use Rattle.grammar.specs.Lines.{lines}
 use Rattle.grammar.specs.Printout.{printed}
-use Rattle.grammar.specs.FairSheet.{Sheet, shaped, column, rateLine, rateLines, ratesPrinted}
+use Rattle.grammar.specs.FairSheet.{DemandSheet, shaped, column, rateLine, rateLines, ratesPrinted}
 use Rattle.grammar.specs.FairSheet.{sheetFits, sheetPrinted, fairPrintout}
 use Rattle.printer.specs.Printed.{LineWritten}
 use Rattle.printer.proofs.Appending.{appended-front, appended-length}
-use Rattle.maxmin.specs.Shared.{granted, roomAfter, Shared}
+use Rattle.maxmin.specs.Shared.{granted, Shared}
 use Rattle.maxmin.proofs.DemandWalk.{listed-unequal}
 use Rattle.maxmin.proofs.RatesGiven.{accepted-few}
+use Rattle.maxmin.proofs.FairlyShared.{Given, accepted-given}
 use Rattle.fairsheet.specs.declared.Reading.{Reading}
 use Rattle.fairsheet.specs.SheetRead.{RowsKept, SheetRead}
 use Rattle.fairsheet.specs.Written.{sheetRoom, Begins, SheetWritten}
 
 -- ---- the rates of a list
-
-fairRates-length : (threshold : ℕ) (ds : List ℕ) → length (fairRates threshold ds) ≡ length ds
-unfolding fairRates
-fairRates-length threshold ds = rates-length _ _ ds
 
 -- what stands behind as many rates as there are ids has no line
 rateLines-more : (is rates more : List ℕ) → length is ≤ length rates → rateLines is (rates ++ more) ≡ rateLines is rates
@@ -71,12 +66,11 @@ module _ (threshold : ℕ) (is ds : List ℕ) where
     said : answer ≡ fairAnswer (acceptable threshold is ds)
     said = s .said ∙ ap fairAnswer granted-accepted
 
+    given : answer ≡ Accepted → Given threshold is ds room after
+    given e = accepted-given (subst (λ (a : Answer). Shared threshold is ds room a after) e s)
+
     pub shared-accepted : answer ≡ Accepted → acceptable threshold is ds ≡ true
-    shared-accepted e = go (acceptable threshold is ds) said
-      where
-        go : (t : Bool) → answer ≡ fairAnswer t → t ≡ true
-        go true given = refl
-        go false given = let never : _≡_ {A = ℕ} 0 1 = cc in absurd (omega arith)
+    shared-accepted e = T-true (given e .ok)
 
     pub shared-refused : (answer ≡ Accepted → ⊥) → printed (Refused 22) ≡ ratesPrinted threshold is ds
     unfolding ratesPrinted
@@ -87,30 +81,23 @@ module _ (threshold : ℕ) (is ds : List ℕ) where
         go false e = rw (ratesPrinted, e)
 
     pub shared-lines : answer ≡ Accepted → rateLines is after ≡ ratesPrinted threshold is ds
-    unfolding ratesPrinted roomAfter
+    unfolding ratesPrinted
     shared-lines e =
         let yes : acceptable threshold is ds ≡ true = shared-accepted e in
-        let given : List ℕ = fairRates threshold ds in
-        let long : length given ≡ length ds = fairRates-length threshold ds in
-        let front : 0 + length given ≡ length given = omega arith in
-        let stored : after ≡ given ++ drop (length given) room
-        = s .room ∙ ap (λ (t : Bool). roomAfter t threshold ds room) (granted-accepted ∙ yes)
-        ∙ sets-eq given room 0 (omega (arith, size, accepted-few threshold is ds yes))
-        ∙ ap (λ (n : ℕ). given ++ drop n room) front in
-        ap (rateLines is) stored
-        ∙ rateLines-more is given _ (omega (arith, accepted-listed yes))
+        ap (rateLines is) (given e .whole)
+        ∙ rateLines-more is (fairRates threshold ds) _ (omega (arith, accepted-listed yes, given e .fair .oneEach))
         ∙ rw (ratesPrinted, yes)
 
 -- ---- the printout of what was read
 
 -- the rows of a text that nothing refuses
-pub record Rows (o : Option Sheet) (listed demands : List ℕ) (r : Reading) : Type 0 where
+pub record Rows (o : Option DemandSheet) (listed demands : List ℕ) (r : Reading) : Type 0 where
   pub rows : List (List ℕ)
   pub kept : RowsKept rows listed demands (r .count)
   pub prints : ratesPrinted (r .threshold) (column 0 rows) (column 1 rows) ≡ sheetPrinted o
 
 module _ {listed demands : List ℕ} {r : Reading} where
-  pub read-refused : (o : Option Sheet) → SheetRead o listed demands r → (r .refused ≡ 0 → ⊥)
+  pub read-refused : (o : Option DemandSheet) → SheetRead o listed demands r → (r .refused ≡ 0 → ⊥)
       → printed (Refused (r .refused)) ≡ sheetPrinted o
   unfolding sheetPrinted
   read-refused none read other = ap (λ (n : ℕ). printed (Refused n)) (read .number)
@@ -120,7 +107,7 @@ module _ {listed demands : List ℕ} {r : Reading} where
       go true e = absurd (other (rw e at (read .number)))
       go false e = rw (sheetPrinted, e) (ap (λ (n : ℕ). printed (Refused n)) (rw e at (read .number)))
 
-  pub read-rows : (o : Option Sheet) → SheetRead o listed demands r → r .refused ≡ 0 → Rows o listed demands r
+  pub read-rows : (o : Option DemandSheet) → SheetRead o listed demands r → r .refused ≡ 0 → Rows o listed demands r
   unfolding sheetPrinted
   read-rows none read fits = absurd (omega (arith, read .number))
   read-rows (some s) read fits = go (sheetFits s) refl
@@ -135,7 +122,7 @@ module _ {listed demands : List ℕ} {r : Reading} where
       }
       go false e = absurd (omega (arith, rw e at (read .number)))
 
-module _ {o : Option Sheet} {listed demands : List ℕ} {r : Reading} (s : Rows o listed demands r) where
+module _ {o : Option DemandSheet} {listed demands : List ℕ} {r : Reading} (s : Rows o listed demands r) where
   pub rows-many : ids < r .count → printed (Refused 22) ≡ sheetPrinted o
   rows-many over =
       let size : length (column 1 (s .rows)) ≡ length (s .rows) = length-map (s .rows) _ in

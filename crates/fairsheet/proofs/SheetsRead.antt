@@ -11,7 +11,7 @@ use Rattle.definitions.proofs.Laws.Tests.{and-both}
 use Rattle.grammar.specs.Templates.{limits, numbersFit, matched}
 use Rattle.grammar.specs.Grammar.{nth}
 use Rattle.grammar.specs.Lines.{lines}
-use Rattle.grammar.specs.FairSheet.{thresholdForm, demandRows, Sheet, sheet, shaped, rowsFit, sheetFits}
+use Rattle.grammar.specs.FairSheet.{thresholdForm, demandRows, DemandSheet, demandSheet, shaped, rowsFit, sheetFits}
 use Rattle.parser.specs.declared.Pair.{Pair}
 use Rattle.parser.specs.Pairs.{pairOf}
 use Rattle.reader.specs.declared.Span.{Span}
@@ -23,19 +23,19 @@ use Rattle.fairsheet.proofs.PairsFound.{sizes-judged, Found, line-found
 
 -- the first line is the one that is read at the first byte; a text without bytes has none, and no form fits it
 shaped-first : (text : List ℕ) (span : Span) → span ≡ spanAt text 0
-    → shaped (lines text) ≡ sheet (matched thresholdForm (take (span .next) text)) (demandRows (lines (drop (span .next) text)))
+    → shaped (lines text) ≡ demandSheet (matched thresholdForm (take (span .next) text)) (demandRows (lines (drop (span .next) text)))
 unfolding shaped lines matched
 shaped-first [] span read = rw take-nil
 shaped-first (b ∷ bs) span read =
     let text = b ∷ bs in
     let whole : span .next - 0 ≡ span .next = omega arith in
     ap shaped (span-passed text 0 span read (omega arith) .ahead)
-    ∙ ap (λ (n : ℕ). sheet (matched thresholdForm (take n text)) (demandRows (lines (drop (span .next) text)))) whole
+    ∙ ap (λ (n : ℕ). demandSheet (matched thresholdForm (take n text)) (demandRows (lines (drop (span .next) text)))) whole
 
 -- ---- what was read of a text whose first line has its form
 
 module _ {p : Pair} {line : List ℕ} (f : Found thresholdForm line p) where
-  abbrev whole : List (List ℕ) → Sheet
+  abbrev whole : List (List ℕ) → DemandSheet
   whole rows = record { first = f .numbers; rows = rows }
 
   both-fit : (rows : List (List ℕ)) → sheetFits (whole rows) ≡ true
@@ -44,7 +44,7 @@ module _ {p : Pair} {line : List ℕ} (f : Found thresholdForm line p) where
   both-fit rows fits = and-both (numbersFit (limits thresholdForm) (f .numbers)) (rowsFit rows) fits
 
   sheet-behind : {listed demands : List ℕ} {r : Reading} (rows : Option (List (List ℕ))) → DemandsRead p rows listed demands r
-      → SheetRead (sheet (some (f .numbers)) rows) listed demands r
+      → SheetRead (demandSheet (some (f .numbers)) rows) listed demands r
   sheet-behind none d = record {
     number = d .number;
     threshold = λ s given fits. let never : _≡_ {A = ℕ} 0 1 = cc in absurd (omega arith);
@@ -57,11 +57,11 @@ module _ {p : Pair} {line : List ℕ} (f : Found thresholdForm line p) where
         ∙ (unfold sheetFits in sizes-judged (numbersFit (limits thresholdForm) (f .numbers)) (rowsFit rows));
     threshold = λ s given fits.
         let same : whole rows ≡ s = cc in
-        subst (λ (x : Sheet). r .threshold ≡ nth (x .first) 0) same
+        subst (λ (x : DemandSheet). r .threshold ≡ nth (x .first) 0) same
         (d .threshold ∙ f .values (both-fit rows (ap sheetFits same ∙ fits) .0) .0);
     kept = λ s given fits.
         let same : whole rows ≡ s = cc in
-        subst (λ (x : Sheet). RowsKept (x .rows) listed demands (r .count)) same
+        subst (λ (x : DemandSheet). RowsKept (x .rows) listed demands (r .count)) same
         (d .kept rows refl (both-fit rows (ap sheetFits same ∙ fits) .1));
   }
 
@@ -72,7 +72,7 @@ module _ (text : List ℕ) (span : Span) (found : span ≡ spanAt text 0) (p : P
   sheet-unformed number =
       let none-there : shaped (lines text) ≡ none
       = shaped-first text span found
-      ∙ ap (λ (o : Option (List ℕ)). sheet o (demandRows (lines (drop (span .next) text))))
+      ∙ ap (λ (o : Option (List ℕ)). demandSheet o (demandRows (lines (drop (span .next) text))))
       (line-unformed thresholdForm _ p read number) in
       record {
         number = ap sheetNumber (sym none-there);
@@ -85,7 +85,7 @@ module _ (text : List ℕ) (span : Span) (found : span ≡ spanAt text 0) (p : P
       → SheetRead (shaped (lines text)) listed demands r
   sheet-read other {r} d =
       let f : Found thresholdForm (take (span .next) text) p = line-found thresholdForm _ p read other in
-      subst (λ (o : Option Sheet). SheetRead o listed demands r)
+      subst (λ (o : Option DemandSheet). SheetRead o listed demands r)
       (sym (shaped-first text span found
-      ∙ ap (λ (o : Option (List ℕ)). sheet o (demandRows (lines (drop (span .next) text)))) (f .shape)))
+      ∙ ap (λ (o : Option (List ℕ)). demandSheet o (demandRows (lines (drop (span .next) text)))) (f .shape)))
       (sheet-behind f (demandRows (lines (drop (span .next) text))) d)

@@ -9,7 +9,7 @@ use mathlib.Core.Option.{Option, none, some}
 use lib.Dec.{eqb}
 use lib.ListN.{length, take}
 use Rattle.grammar.specs.Grammar.{nth}
-use Rattle.grammar.specs.FairSheet.{Sheet, rowsFit, sheetFits, column}
+use Rattle.grammar.specs.FairSheet.{DemandSheet, rowsFit, sheetFits, column}
 use Rattle.parser.specs.declared.Pair.{Pair}
 use Rattle.fairsheet.specs.declared.Reading.{Reading}
 
@@ -26,7 +26,7 @@ rowsNumber first none = 16
 rowsNumber first (some rows) = judged first (sizeNumber (rowsFit rows))
 
 -- what refuses a text
-abbrev pub sheetNumber : Option Sheet → ℕ
+abbrev pub sheetNumber : Option DemandSheet → ℕ
 sheetNumber none = 16
 sheetNumber (some s) = sizeNumber (sheetFits s)
 
@@ -46,7 +46,7 @@ pub record DemandsRead (first : Pair) (rows : Option (List (List ℕ))) (listed 
   pub kept : (rs : List (List ℕ)) → rows ≡ some rs → rowsFit rs ≡ true → RowsKept rs listed demands (r .count)
 
 -- the whole text
-pub record SheetRead (sheet : Option Sheet) (listed demands : List ℕ) (r : Reading) : Type 0 where
+pub record SheetRead (sheet : Option DemandSheet) (listed demands : List ℕ) (r : Reading) : Type 0 where
   pub number : r .refused ≡ sheetNumber sheet
-  pub threshold : (s : Sheet) → sheet ≡ some s → sheetFits s ≡ true → r .threshold ≡ nth (s .first) 0
-  pub kept : (s : Sheet) → sheet ≡ some s → sheetFits s ≡ true → RowsKept (s .rows) listed demands (r .count)
+  pub threshold : (s : DemandSheet) → sheet ≡ some s → sheetFits s ≡ true → r .threshold ≡ nth (s .first) 0
+  pub kept : (s : DemandSheet) → sheet ≡ some s → sheetFits s ≡ true → RowsKept (s .rows) listed demands (r .count)

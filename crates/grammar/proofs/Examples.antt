@@ -9,6 +9,8 @@ use Rattle.definitions.specs.History.{History, scheduler, after, answerAt, deal
 use Rattle.definitions.specs.Sameness.{isTick, names, indifferentBy, indifferentAt, isStruck, kept, departure}
 use Rattle.definitions.proofs.Everything.{everything}
 use Rattle.definitions.specs.Sizes.{numberLimit, handleLimit}
+use Rattle.definitions.specs.FairRates.{cutSum, fits, largestUpTo, fairLevel, extra, ratesAt, fairRates}
+use Rattle.definitions.specs.FairRates.{entryFits, listedFrom, acceptable}
 use Rattle.grammar.specs.Bytes.{lineFeed, textLimit}
 use Rattle.grammar.specs.Numerals.{isDigit, leading, behind, isNumeral, valueFrom, digits, decimal}
 use Rattle.grammar.specs.Templates.{limits, numbersFit, filled, matched}
@@ -16,8 +18,10 @@ use Rattle.grammar.specs.Grammar.{sized, parsedBy, parsed}
 use Rattle.grammar.proofs.AllForms.{forms}
 use Rattle.grammar.specs.Printout.{printed, answered, printedFrom, coreFrom, printout}
 use Rattle.grammar.specs.Lines.{lines, heldFrom, heard, toldFrom, told}
+use Rattle.grammar.specs.FairSheet.{demandRows, shaped, rowsFit, rateLine, rateLines, ratesPrinted}
+use Rattle.grammar.specs.FairSheet.{sheetFits, sheetPrinted, fairPrintout}
 use Rattle.grammar.specs.Sheet.{noted, notedFrom}
-use Rattle.grammar.specs.Examples.{PaperPrintout, BadPrintout, silence, CallAndSilence, tooLong, LimitNeeded}
+use Rattle.grammar.specs.Examples.{PaperPrintout, BadPrintout, FairPrintouts, silence, CallAndSilence, tooLong, LimitNeeded}
 
 unfoldable pub printing : Type 0
 unfolding everything textLimit numberLimit handleLimit isDigit leading behind isNumeral valueFrom digits decimal filled matched
@@ -37,6 +41,24 @@ paper-printout = refl
 pub bad-printout : BadPrintout
 unfolding BadPrintout printing
 bad-printout = refl
+
+-- what reads a text of demands and prints its rates
+unfoldable pub sharing : Type 0
+unfolding printing lines cutSum fits largestUpTo fairLevel extra ratesAt fairRates entryFits listedFrom acceptable
+    demandRows shaped rowsFit rateLine rateLines ratesPrinted sheetFits sheetPrinted fairPrintout
+sharing = Unit {0}
+
+pub fair-printouts : FairPrintouts
+unfolding sharing
+fair-printouts = record {
+  rates = refl;
+  noDemands = refl;
+  noThreshold = refl;
+  notClosed = refl;
+  shapeFirst = refl;
+  sizeNext = refl;
+  unfair = refl;
+}
 
 pub call-and-silence : CallAndSilence
 unfolding comparing

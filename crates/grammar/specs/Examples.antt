@@ -1,5 +1,5 @@
--- Examples beside the claims: the printout that paper 01 prints ("Script and printout"), one of bad lines, and two texts of which
--- demand 3 on paper speaks, with what it compares there and what it does not.
+-- Examples beside the claims: the printout that paper 01 prints ("Script and printout"), one of bad lines, texts of demands
+-- (paper 02, S-8), and two texts of which demand 3 on paper speaks, with what it compares there and what it does not.
 use Prim.Native.Nat.{ℕ}
 use mathlib.Core.Path.{_≡_}
 use mathlib.Core.Bool.{_&&_}
@@ -9,6 +9,7 @@ use Rattle.definitions.specs.Sameness.{indifferentAt, names, departure}
 use Rattle.grammar.specs.Bytes.{bytes, lineFeed, textLimit}
 use Rattle.grammar.specs.Printout.{printout}
 use Rattle.grammar.specs.Lines.{lines}
+use Rattle.grammar.specs.FairSheet.{fairPrintout}
 use Rattle.grammar.specs.Sheet.{sheet, keptOf, printedOf}
 
 unfoldable pub PaperPrintout : Type 0
@@ -23,6 +24,17 @@ BadPrintout =
     printout
     (bytes "\n(tick )\n(tick)\n(open 01 0 1)\n(open 4294967296 0 1)\n(open 1024 0 0)\n(leave 4294967295)\n(open 99999999999999999999 0 01)\n(minute 3)\n(tick)")
     ≡ bytes "(refused 16)\n(refused 16)\n(refused 19)\n(refused 16)\n(refused 17)\n(refused 3)\n(refused 19)\n(refused 16)\n(refused 16)\n(refused 16)\n"
+
+-- texts of demands: their rates, no demands, and each number, shape before size and size before 22
+pub record FairPrintouts : Type 0 where
+  pub rates : fairPrintout (bytes "(threshold 10)\n(demand 2 8)\n(demand 5 8)\n(demand 9 1)\n")
+      ≡ bytes "(rate 2 5)\n(rate 5 4)\n(rate 9 1)\n"
+  pub noDemands : fairPrintout (bytes "(threshold 10)\n") ≡ []
+  pub noThreshold : fairPrintout [] ≡ bytes "(refused 16)\n"
+  pub notClosed : fairPrintout (bytes "(threshold 10)\n(demand 2 8)") ≡ bytes "(refused 16)\n"
+  pub shapeFirst : fairPrintout (bytes "(threshold 4294967296)\n(demand 2)\n") ≡ bytes "(refused 16)\n"
+  pub sizeNext : fairPrintout (bytes "(threshold 0)\n(demand 2 4294967296)\n") ≡ bytes "(refused 17)\n"
+  pub unfair : fairPrintout (bytes "(threshold 0)\n(demand 2 4294967295)\n") ≡ bytes "(refused 22)\n"
 
 -- Client 2 is private, and has a call in the one text and none in the other.
 abbrev pub opening : List ℕ

@@ -33,18 +33,18 @@ demandRows [] = some []
 demandRows (line ∷ rest) = withLine (matched demandForm line) (demandRows rest)
 
 -- what a text of the right shape holds: the numbers of its first line, and of each demand
-pub record Sheet : Type 0 where
+pub record DemandSheet : Type 0 where
   pub first : List ℕ
   pub rows : List (List ℕ)
 
-abbrev pub sheet : Option (List ℕ) → Option (List (List ℕ)) → Option Sheet
-sheet none rows = none
-sheet (some first) none = none
-sheet (some first) (some rows) = some (record { first = first; rows = rows })
+abbrev pub demandSheet : Option (List ℕ) → Option (List (List ℕ)) → Option DemandSheet
+demandSheet none rows = none
+demandSheet (some first) none = none
+demandSheet (some first) (some rows) = some (record { first = first; rows = rows })
 
-unfoldable pub shaped : List (List ℕ) → Option Sheet
+unfoldable pub shaped : List (List ℕ) → Option DemandSheet
 shaped [] = none
-shaped (first ∷ rest) = sheet (matched thresholdForm first) (demandRows rest)
+shaped (first ∷ rest) = demandSheet (matched thresholdForm first) (demandRows rest)
 
 -- whether none of the demands' numbers is "above 4294967295"
 unfoldable pub rowsFit : List (List ℕ) → Bool
@@ -72,11 +72,11 @@ ratesPrinted threshold ids demands =
     ]
 
 -- whether no number of a text is "above 4294967295"
-unfoldable pub sheetFits : Sheet → Bool
+unfoldable pub sheetFits : DemandSheet → Bool
 sheetFits s = numbersFit (limits thresholdForm) (s .first) && rowsFit (s .rows)
 
 -- shape is judged before size, and both before the demands: another shape is 16, "right shape, but a number above" 17
-unfoldable pub sheetPrinted : Option Sheet → List ℕ
+unfoldable pub sheetPrinted : Option DemandSheet → List ℕ
 sheetPrinted none = printed (Refused 16)
 sheetPrinted (some s) =
     elim (sheetFits s) [

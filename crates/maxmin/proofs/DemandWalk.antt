@@ -5,7 +5,7 @@ use native.Mathlib.Nat.{le-trans, mul-le-mul-left, mul-le-mul-right}
 use native.Mathlib.Omega.{arith}
 use native.Mathlib.Numerals.{add-one}
 use mathlib.Core.Path.{_≡_, refl, ap, _∙_}
-use mathlib.Core.Bool.{Bool, true, false, _&&_}
+use mathlib.Core.Bool.{true, false, _&&_, and-false}
 use mathlib.Core.List.{List, [], _∷_}
 use lib.Dec.{leb, ltb}
 use lib.ListN.{length, getD, set, drop, drop-of-length-le}
@@ -59,10 +59,6 @@ pub listed-none : (is ds : List ℕ) (i lowest : ℕ) → length is ≤ i → le
     → listedFrom lowest (drop i is) (drop i ds) ≡ true
 unfolding listedFrom
 listed-none is ds i lowest past past′ = rw (drop-of-length-le is past, drop-of-length-le ds past′)
-
-and-false : (a : Bool) → (a && false) ≡ false
-and-false true = refl
-and-false false = refl
 
 pub listed-unequal : (is ds : List ℕ) (lowest : ℕ) → (length is ≡ length ds → ⊥) → listedFrom lowest is ds ≡ false
 unfolding listedFrom

@@ -16,12 +16,13 @@ use Rattle.definitions.proofs.Fairness.Claims.{are-fair, every-served, more-for
 use Rattle.maxmin.specs.Shared.{granted, roomAfter, Shared}
 use Rattle.maxmin.specs.CodeFair.{CodeFair}
 
-record Given (threshold : ℕ) (is ds before after : List ℕ) : Type 0 where
-  ok : T (acceptable threshold is ds)
-  fair : Fair threshold ds (fairRates threshold ds)
-  whole : after ≡ fairRates threshold ds ++ drop (length ds) before
+-- what an answer that accepts says
+pub record Given (threshold : ℕ) (is ds before after : List ℕ) : Type 0 where
+  pub ok : T (acceptable threshold is ds)
+  pub fair : Fair threshold ds (fairRates threshold ds)
+  pub whole : after ≡ fairRates threshold ds ++ drop (length ds) before
 
-accepted-given : {threshold : ℕ} {is ds before after : List ℕ} → Shared threshold is ds before Accepted after
+pub accepted-given : {threshold : ℕ} {is ds before after : List ℕ} → Shared threshold is ds before Accepted after
     → Given threshold is ds before after
 unfolding granted roomAfter AreFair
 accepted-given {threshold} {is} {ds} {before} {after} s =

@@ -10,6 +10,7 @@ use lib.Seq.{sets}
 use Rattle.definitions.specs.declared.Answer.{Answer}
 use Rattle.definitions.specs.FairRates.{acceptable, fairRates, fairAnswer}
 
+-- whether rates are given
 unfoldable pub granted : ℕ → List ℕ → List ℕ → List ℕ → Bool
 granted threshold ids demands room = acceptable threshold ids demands && leb (length demands) (length room)
 

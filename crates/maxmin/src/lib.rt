@@ -16,10 +16,11 @@ ghost use Rattle.maxmin.specs.Shared.{Shared};
 // The number of the one check.
 const UNFAIR: u32 = 22;
 
-fn least(a: u32, b: u32) -> u32
-    ensures { λ r. ⌜ r ≡ min a b ⌝ }
+// A demand, cut to a level.
+fn cut(demand: u32, level: u32) -> u32
+    ensures { λ r. ⌜ r ≡ min demand level ⌝ }
 {
-    if a < b { a } else { b }
+    if demand < level { demand } else { level }
 }
 
 fn is_share(n: u32) -> bool
@@ -87,7 +88,7 @@ fn cut_sum(demands: &[u32], level: u32) -> u32
     let mut sum = 0;
     let mut i = 0;
     while i < demands.len() {
-        sum += least(demands[i], level);
+        sum += cut(demands[i], level);
         i += 1;
     }
     sum
@@ -118,7 +119,10 @@ fn extra(level: u32, left: u32, demand: u32) -> u32
     if demand <= level {
         return 0;
     }
-    least(left, 1)
+    if left == 0 {
+        return 0;
+    }
+    1
 }
 
 fn put_rates(level: u32, left: u32, demands: &[u32], rates: &mut [u32])
@@ -129,7 +133,7 @@ fn put_rates(level: u32, left: u32, demands: &[u32], rates: &mut [u32])
     let mut i = 0;
     while i < demands.len() {
         let more = extra(level, rest, demands[i]);
-        rates[i] = least(demands[i], level) + more;
+        rates[i] = cut(demands[i], level) + more;
         rest -= more;
         i += 1;
     }

@@ -1,6 +1,6 @@
 -- A line that is written into bytes from a place on, which takes room for any line. Where that room is not there nothing is
 -- written, so that a caller who sees to the room gets every line whole.
-use Prim.Native.Nat.{ℕ, _+_, _≤_, _<_}
+use Prim.Native.Nat.{ℕ, _+_, _-_, _≤_, _<_}
 use mathlib.Core.Path.{_≡_}
 use mathlib.Core.List.{List, _++_}
 use lib.ListN.{length}
@@ -28,4 +28,4 @@ pairLine text first second = (text ++ decimal first) ++ ((bytes " " ++ decimal s
 
 -- the room of its text, beside two numbers of ten digits and the three bytes around them
 abbrev pub wordRoom : ℕ
-wordRoom = 41
+wordRoom = lineRoom - 23

@@ -1,4 +1,4 @@
-// Standard input, read whole into bytes that are lent, and standard output. No contract can say which bytes go in and out; what
+// Standard input, read to its end or to that of the bytes that are lent, and standard output. No contract can say which bytes go in and out; what
 // is said is how many were read, or written.
 use libc::EINTR;
 use libc::STDIN_FILENO;

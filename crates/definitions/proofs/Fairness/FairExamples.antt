@@ -14,7 +14,8 @@ fair-there = record {
   cut = (refl, refl);
   atLevel = (refl, refl);
   met = (refl, refl);
-  oneEach = (refl, refl);
+  aShareEach = (refl, refl);
+  all = (refl, refl);
   empty = (refl, refl);
   others = (refl, refl);
 }

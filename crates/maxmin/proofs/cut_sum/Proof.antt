@@ -20,14 +20,14 @@ abbrev μ-loop : tie.MeasureT-loop
 loop-holds : tie.Need-loop-holds Inv-loop μ-loop
 loop-holds c = (omega arith, zero-le)
 
-mul-least : tie.Need-mul-least Inv-loop μ-loop
-mul-least c = search needs
+mul-cut : tie.Need-mul-cut Inv-loop μ-loop
+mul-cut c = search needs
 
-shared-slice-read-least : tie.Need-shared-slice-read-least Inv-loop μ-loop
-shared-slice-read-least c = search needs
+shared-slice-read-cut : tie.Need-shared-slice-read-cut Inv-loop μ-loop
+shared-slice-read-cut c = search needs
 
-least-requires : tie.Need-least-requires Inv-loop μ-loop
-least-requires c κs = search needs
+cut-requires : tie.Need-cut-requires Inv-loop μ-loop
+cut-requires c κs = search needs
 
 add-sum : tie.Need-add-sum Inv-loop μ-loop
 unfolding ids shares
@@ -38,7 +38,7 @@ add-sum c =
     record {
       fits = omega (
         arith,
-        c .least .ensures,
+        c .cut .ensures,
         loop .inv .0,
         cut-next (args .demands .now) (loop .i) (turn .loop-test .taken) (args .level),
         cut-fits (args .demands .now) (args .level) (turn .before .before .before .pre .0) (turn .before .before .before .pre .1),
@@ -58,7 +58,7 @@ loop-again c =
     let loop = turn .before .loop in (
       omega (
         arith,
-        c .least .ensures,
+        c .cut .ensures,
         loop .inv .0,
         cut-next (args .demands .now) (loop .i) (turn .loop-test .taken) (args .level),
       ),
@@ -73,5 +73,5 @@ returns c =
 pub cut-sum-spec : {M : Type 1} → statement M
 cut-sum-spec =
     tie.close
-    (tie.spec Inv-loop μ-loop loop-holds mul-least shared-slice-read-least least-requires add-sum add-i loop-less loop-again
+    (tie.spec Inv-loop μ-loop loop-holds mul-cut shared-slice-read-cut cut-requires add-sum add-i loop-less loop-again
     returns)

@@ -1,5 +1,4 @@
 -- `maxmin::extra` meets its contract. Assumes nothing.
-use borrow.Author.Needs.{needs}
 use native.Mathlib.Omega.{arith}
 use borrow.Author.Tests.{le-ltb, lt-ltb}
 use Rattle.definitions.specs.FairRates.{extra}
@@ -10,13 +9,13 @@ returns : tie.Need-returns
 unfolding extra
 returns c = rw (le-ltb (c .before .args .level) (c .before .args .demand) (omega arith))
 
-least-requires : tie.Need-least-requires
-least-requires c κs = search needs
-
 returns-2 : tie.Need-returns-2
 unfolding extra
-returns-2 c =
-    rw (lt-ltb (c .before .before .args .level) (c .before .before .args .demand) (omega arith)) (c .least .ensures)
+returns-2 c = rw (lt-ltb (c .before .before .args .level) (c .before .before .args .demand) (omega arith)) (omega arith)
+
+returns-3 : tie.Need-returns-3
+unfolding extra
+returns-3 c = rw (lt-ltb (c .before .before .args .level) (c .before .before .args .demand) (omega arith)) (omega arith)
 
 pub extra-spec : {M : Type 1} → statement M
-extra-spec = tie.close (tie.spec returns least-requires returns-2)
+extra-spec = tie.close (tie.spec returns returns-2 returns-3)

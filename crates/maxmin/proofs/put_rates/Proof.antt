@@ -34,14 +34,14 @@ shared-slice-read-extra c = search needs
 extra-requires : tie.Need-extra-requires Inv-loop μ-loop
 extra-requires c κs = search needs
 
-mul-least : tie.Need-mul-least Inv-loop μ-loop
-mul-least c = search needs
+mul-cut : tie.Need-mul-cut Inv-loop μ-loop
+mul-cut c = search needs
 
-shared-slice-read-least : tie.Need-shared-slice-read-least Inv-loop μ-loop
-shared-slice-read-least c = search needs
+shared-slice-read-cut : tie.Need-shared-slice-read-cut Inv-loop μ-loop
+shared-slice-read-cut c = search needs
 
-least-requires : tie.Need-least-requires Inv-loop μ-loop
-least-requires c κs = search needs
+cut-requires : tie.Need-cut-requires Inv-loop μ-loop
+cut-requires c κs = search needs
 
 -- what a share of what is left comes to
 extra-most : (level left demand : ℕ) → (extra level left demand ≤ 1) × (extra level left demand ≤ left)
@@ -57,7 +57,7 @@ add-rates c =
     record {
       fits = omega (
         arith,
-        c .least .ensures,
+        c .cut .ensures,
         c .before .before .extra .ensures,
         extra-most (args .level) (turn .before .loop .rest) (getD (args .demands .now) (turn .before .loop .i) 0),
         turn .before .before .before .before .pre,
@@ -93,7 +93,7 @@ loop-again c =
     let turn = c .before .before .before .before in
     let args = turn .before .before .before .before .args in
     let loop = turn .before .loop in (
-      rw (c .least .ensures, c .before .before .extra .ensures)
+      rw (c .cut .ensures, c .before .before .extra .ensures)
           (sym (rates-next (args .demands .now) (loop .i) (turn .loop-test .taken) (args .level) (loop .rest) (loop .rates))
           ∙ loop .inv .0),
       simp length-set (loop .inv .1),
@@ -112,5 +112,5 @@ returns c =
 pub put-rates-spec : {M : Type 1} → statement M
 put-rates-spec =
     tie.close
-    (tie.spec Inv-loop μ-loop loop-holds mul-extra shared-slice-read-extra extra-requires mul-least shared-slice-read-least
-    least-requires add-rates mul-rates slice-write-rates sub-rest add-i loop-less loop-again same-length returns)
+    (tie.spec Inv-loop μ-loop loop-holds mul-extra shared-slice-read-extra extra-requires mul-cut shared-slice-read-cut
+    cut-requires add-rates mul-rates slice-write-rates sub-rest add-i loop-less loop-again same-length returns)
