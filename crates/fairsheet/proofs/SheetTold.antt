@@ -7,28 +7,31 @@ use mathlib.Core.List.{List, [], _∷_, _++_}
 use mathlib.Core.Option.{Option, none, some}
 use native.Mathlib.Omega.{arith}
 use lib.Dec.{leb}
-use lib.ListN.{length, take, length-map}
+use lib.ListN.{length, take, drop, length-map}
+use lib.Seq.{drop-at}
 use borrow.Author.Tests.{le-leb, lt-leb, lt-ltb, le-ltb}
 use Rattle.definitions.specs.declared.Answer.{Answer}
 use Rattle.definitions.specs.declared.Answer.the-variants.{Accepted, Refused}
 use Rattle.definitions.specs.Sizes.{ids, shares}
 use Rattle.definitions.specs.Checks.{within}
 use Rattle.definitions.specs.FairRates.{fairRates, acceptable, fairAnswer}
-use Rattle.definitions.proofs.Laws.Tests.{T-true, eqb-cases, true-false, and-both}
+use Rattle.definitions.proofs.Laws.Tests.{T-true, eqb-cases, true-false}
+use Rattle.definitions.proofs.Fairness.Claims.{accepted-parts}
 use Rattle.grammar.specs.Bytes.{textLimit}
 use Rattle.grammar.specs.Lines.{lines}
 use Rattle.grammar.specs.Printout.{printed}
 use Rattle.grammar.specs.FairSheet.{DemandSheet, shaped, column, rateLine, rateLines, ratesPrinted}
 use Rattle.grammar.specs.FairSheet.{sheetFits, sheetPrinted, fairPrintout}
+use Rattle.printer.specs.Appended.{Appended}
 use Rattle.printer.specs.Printed.{LineWritten}
-use Rattle.printer.proofs.Appending.{appended-front, appended-length}
+use Rattle.printer.proofs.Appending.{appended-whole, appended-front, appended-length, appended-as}
 use Rattle.maxmin.specs.Shared.{granted, Shared}
 use Rattle.maxmin.proofs.DemandWalk.{listed-unequal}
 use Rattle.maxmin.proofs.RatesGiven.{accepted-few}
 use Rattle.maxmin.proofs.FairlyShared.{Given, accepted-given}
 use Rattle.fairsheet.specs.declared.Reading.{Reading}
 use Rattle.fairsheet.specs.SheetRead.{RowsKept, SheetRead}
-use Rattle.fairsheet.specs.Written.{sheetRoom, Begins, SheetWritten}
+use Rattle.fairsheet.specs.Written.{sheetRoom, SheetWritten}
 
 -- ---- the rates of a list
 
@@ -42,10 +45,8 @@ rateLines-more (i ∷ is) (r ∷ rates) more enough =
 
 module _ (threshold : ℕ) (is ds : List ℕ) where
   pub accepted-listed : acceptable threshold is ds ≡ true → length is ≡ length ds
-  unfolding acceptable
   accepted-listed e =
-      let listed = and-both (leb (length ds) threshold) _ (and-both (leb (length ds) ids) _
-      (and-both (within 1 shares threshold) _ e .1) .1) .1 in
+      let listed = T-true (accepted-parts threshold is ds (rw e tt) .2) in
       eqb-cases (λ t. length is ≡ length ds) (length is) (length ds) (λ same. same)
       (λ other. true-false listed (listed-unequal is ds 0 other))
 
@@ -136,29 +137,34 @@ module _ {o : Option DemandSheet} {listed demands : List ℕ} {r : Reading} (s :
 
 -- ---- the bytes
 
-pub begins-as : {bytes other after : List ℕ} {r : ℕ} → bytes ≡ other → Begins bytes after r → Begins other after r
-begins-as {after = after} {r} e b = subst (λ (l : List ℕ). Begins l after r) e b
-
-pub line-begins : {line before after : List ℕ} {r : ℕ} → sheetRoom ≤ length before → LineWritten line before 0 after r
-    → Begins line after r
+pub line-written : {line before after : List ℕ} {r : ℕ} → sheetRoom ≤ length before → LineWritten line before 0 after r
+    → Appended line before 0 after r
 unfolding ids
-line-begins room w =
-    let a = w .written (omega arith) in
-    record { told = appended-front a; fits = omega (arith, a .room, appended-length a) }
+line-written room w = w .written (omega arith)
+
+-- what stands behind a text at the start is as it was
+appended-rest : {text before after : List ℕ} {r : ℕ} → Appended text before 0 after r → drop r after ≡ drop r before
+appended-rest {text} {before} {after} {r} a = rw (appended-whole a) (drop-at text (drop r before) r (omega (arith, a .place)))
 
 module _ (text before : List ℕ) where
   pub sheet-bare : length before < sheetRoom → SheetWritten text before before 0
-  sheet-bare little = record { told = λ room. absurd (omega arith); fits = omega arith; bare = λ less. (refl, refl) }
+  sheet-bare little = record { told = λ room. absurd (omega arith); fits = omega arith; rest = refl; bare = λ less. (refl, refl) }
 
   module _ (room : sheetRoom ≤ length before) {after : List ℕ} {r : ℕ} where
-    sheet-told : Begins (fairPrintout text) after r → SheetWritten text before after r
-    sheet-told b = record { told = λ enough. b .told; fits = b .fits; bare = λ little. absurd (omega arith) }
+    sheet-told : Appended (fairPrintout text) before 0 after r → SheetWritten text before after r
+    sheet-told a = record {
+      told = λ enough. appended-front a;
+      fits = omega (arith, a .room, appended-length a);
+      rest = appended-rest a;
+      bare = λ little. absurd (omega arith);
+    }
 
-    pub told-long : textLimit < length text → Begins (printed (Refused 18)) after r → SheetWritten text before after r
-    unfolding fairPrintout
-    told-long over b = sheet-told (begins-as (rw (fairPrintout, lt-ltb textLimit (length text) over)) b)
-
-    pub told-read : length text ≤ textLimit → Begins (sheetPrinted (shaped (lines text))) after r
+    pub told-long : textLimit < length text → Appended (printed (Refused 18)) before 0 after r
         → SheetWritten text before after r
     unfolding fairPrintout
-    told-read short b = sheet-told (begins-as (rw (fairPrintout, le-ltb textLimit (length text) short)) b)
+    told-long over a = sheet-told (appended-as (rw (fairPrintout, lt-ltb textLimit (length text) over)) a)
+
+    pub told-read : length text ≤ textLimit → Appended (sheetPrinted (shaped (lines text))) before 0 after r
+        → SheetWritten text before after r
+    unfolding fairPrintout
+    told-read short a = sheet-told (appended-as (rw (fairPrintout, le-ltb textLimit (length text) short)) a)

@@ -3,7 +3,7 @@
 use Prim.Native.Nat.{ℕ, _*_, _≤_, _<_}
 use mathlib.Core.Path.{_≡_}
 use mathlib.Core.List.{List}
-use lib.ListN.{length, take}
+use lib.ListN.{length, take, drop}
 use Rattle.definitions.specs.Sizes.{ids}
 use Rattle.grammar.specs.FairSheet.{fairPrintout}
 use Rattle.printer.specs.Printed.{lineRoom}
@@ -11,14 +11,11 @@ use Rattle.printer.specs.Printed.{lineRoom}
 abbrev pub sheetRoom : ℕ
 sheetRoom = ids * lineRoom
 
--- some bytes stand at the start of a buffer
-pub record Begins (bytes after : List ℕ) (r : ℕ) : Type 0 where
-  pub told : take r after ≡ bytes
-  pub fits : r ≤ length after
-
 -- the buffer before and after, and how many bytes were written
 pub record SheetWritten (text before after : List ℕ) (r : ℕ) : Type 0 where
   pub told : sheetRoom ≤ length before → take r after ≡ fairPrintout text
   pub fits : r ≤ length after
+  -- what stands behind it is as it was
+  pub rest : drop r after ≡ drop r before
   -- without room for all rates nothing is done
   pub bare : length before < sheetRoom → (r ≡ 0) × (after ≡ before)

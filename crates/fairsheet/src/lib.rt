@@ -11,8 +11,9 @@ ghost use lib.ListN.{length, set, drop};
 ghost use Rattle.definitions.specs.Sizes.{ids};
 ghost use Rattle.grammar.specs.Lines.{lines};
 ghost use Rattle.grammar.specs.FairSheet.{demandRows, shaped, rateLines, ratesPrinted};
+ghost use Rattle.printer.specs.Appended.{Appended};
 ghost use Rattle.fairsheet.specs.SheetRead.{judged, DemandsRead, SheetRead};
-ghost use Rattle.fairsheet.specs.Written.{sheetRoom, Begins, SheetWritten};
+ghost use Rattle.fairsheet.specs.Written.{sheetRoom, SheetWritten};
 
 // How many demands a list may have, and the room of their lines.
 const ROWS: usize = IDS as usize;
@@ -109,7 +110,7 @@ fn read(text: &[u8], listed: &mut [u32], demands: &mut [u32]) -> Reading
 // Writes the line of each id and its rate, in the order of the list.
 fn put_rates(listed: &[u32], rates: &[u32], out: &mut [u8]) -> usize
     requires { ⌜ (length (now listed) ≤ ids) × (length (now listed) ≤ length (now rates)) × (sheetRoom ≤ length (now out)) ⌝ }
-    ensures { λ r. ⌜ Begins (rateLines (now (listed .entry)) (now (rates .entry))) (now (out .exit)) r ⌝ }
+    ensures { λ r. ⌜ Appended (rateLines (now (listed .entry)) (now (rates .entry))) (now (out .entry)) 0 (now (out .exit)) r ⌝ }
 {
     let mut at: usize = 0;
     let mut i = 0;
@@ -123,7 +124,8 @@ fn put_rates(listed: &[u32], rates: &[u32], out: &mut [u8]) -> usize
 // Writes what a threshold and demands of any numbers print.
 fn print_rates(threshold: u32, listed: &[u32], demands: &[u32], out: &mut [u8]) -> usize
     requires { ⌜ sheetRoom ≤ length (now out) ⌝ }
-    ensures { λ r. ⌜ Begins (ratesPrinted threshold (now (listed .entry)) (now (demands .entry))) (now (out .exit)) r ⌝ }
+    ensures { λ r. ⌜ Appended (ratesPrinted threshold (now (listed .entry)) (now (demands .entry)))
+        (now (out .entry)) 0 (now (out .exit)) r ⌝ }
 {
     let mut rates = [0u32; ROWS];
     let answer = maxmin::rates(threshold, listed, demands, &mut rates);

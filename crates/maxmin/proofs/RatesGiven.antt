@@ -3,16 +3,14 @@ use Prim.Native.Nat.{ℕ, _-_, _≤_, _<_}
 use mathlib.Core.Path.{_≡_, _∙_}
 use mathlib.Core.Bool.{true, false}
 use mathlib.Core.List.{List}
-use lib.Dec.{leb}
 use lib.ListN.{length}
 use lib.Seq.{sets}
-use borrow.Author.Tests.{leb-true, le-leb, lt-leb}
+use borrow.Author.Tests.{le-leb, lt-leb}
 use Rattle.definitions.specs.declared.Answer.the-variants.{Accepted, Refused}
 use Rattle.definitions.specs.Sizes.{ids, shares}
-use Rattle.definitions.specs.Checks.{within}
 use Rattle.definitions.specs.FairRates.{cutSum, fairLevel, ratesAt, fairRates, acceptable}
-use Rattle.definitions.proofs.Laws.Tests.{and-both}
 use Rattle.definitions.proofs.Fairness.Level.{level-top, level-fits}
+use Rattle.definitions.proofs.Fairness.Claims.{accepted-parts}
 use Rattle.maxmin.specs.Shared.{granted, roomAfter, Shared}
 
 -- a level that was found is within the shares, and what is cut to it fits
@@ -28,8 +26,7 @@ found-fits threshold ds found cut = rw (cut, found) (level-fits threshold ds)
 module _ (threshold : ℕ) (is ds : List ℕ) where
   -- a list that is accepted has at most a demand to an id
   pub accepted-few : acceptable threshold is ds ≡ true → length ds ≤ ids
-  unfolding acceptable
-  accepted-few e = leb-true (length ds) ids (and-both (leb (length ds) ids) _ (and-both (within 1 shares threshold) _ e .1) .0)
+  accepted-few e = accepted-parts threshold is ds (rw e tt) .0
 
   pub refused-list : (room : List ℕ) → acceptable threshold is ds ≡ false → Shared threshold is ds room (Refused 22) room
   unfolding granted roomAfter

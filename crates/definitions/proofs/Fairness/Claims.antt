@@ -47,18 +47,22 @@ listed-length lowest (i ∷ is) (d ∷ ds) listed low =
     let stays = leb→le (suc i) ids (order .1) in
     omega (arith, listed-length (suc i) is ds (both .1) stays)
 
-module _ (threshold : ℕ) (is ds : List ℕ) (ok : T (acceptable threshold is ds)) where
-  parts : T (leb (length ds) threshold) × T (listedFrom 0 is ds)
-  unfolding acceptable
-  parts =
-      let few = T-and (within 1 shares threshold) _ ok .1 in
-      T-and (leb (length ds) threshold) (listedFrom 0 is ds) (T-and (leb (length ds) ids) _ few .1)
+-- what the check of a list says, part by part
+pub accepted-parts : (threshold : ℕ) (is ds : List ℕ)
+    → T (acceptable threshold is ds)
+    → (length ds ≤ ids) × (length ds ≤ threshold) × T (listedFrom 0 is ds)
+unfolding acceptable
+accepted-parts threshold is ds ok =
+    let few = T-and (leb (length ds) ids) _ (T-and (within 1 shares threshold) _ ok .1) in
+    let shared = T-and (leb (length ds) threshold) (listedFrom 0 is ds) (few .1) in
+    (leb→le (length ds) ids (few .0), leb→le (length ds) threshold (shared .0), shared .1)
 
+module _ (threshold : ℕ) (is ds : List ℕ) (ok : T (acceptable threshold is ds)) where
   few : length ds ≤ threshold
-  few = leb→le (length ds) threshold (parts .0)
+  few = accepted-parts threshold is ds ok .1
 
   range : (k : ℕ) → k < length ds → (1 ≤ at ds k) × (at ds k ≤ shares)
-  range k here = listed-range 0 is ds k (parts .1) here
+  range k here = listed-range 0 is ds k (accepted-parts threshold is ds ok .2) here
 
   -- no demand is above the highest level, wherever one is or none
   top : (k : ℕ) → at ds k ≤ shares

@@ -8,8 +8,9 @@ use lib.ListN.{length}
 use lib.Seq.{length-take-le}
 use Rattle.definitions.specs.Sizes.{ids}
 use Rattle.grammar.specs.Bytes.{textLimit}
+use Rattle.printer.proofs.Appending.{appended-as}
 use Rattle.fairsheet.specs.Written.{sheetRoom}
-use Rattle.fairsheet.proofs.SheetTold.{read-refused, read-rows, rows-many, rows-few, begins-as, line-begins}
+use Rattle.fairsheet.proofs.SheetTold.{read-refused, read-rows, rows-many, rows-few, line-written}
 use Rattle.fairsheet.proofs.SheetTold.{sheet-bare, told-long, told-read}
 use Rattle.fairsheet.proofs.print.Statement.{statement}
 use Rattle.fairsheet.proofs.print.Tie as tie
@@ -35,7 +36,7 @@ returns-2 c =
     let call = c .before .before in
     let test = call .before .before in
     let space = room (test .before) in
-    told-long _ _ space (omega (arith, test .if2 .taken)) (line-begins space (call .print-refused .ensures))
+    told-long _ _ space (omega (arith, test .if2 .taken)) (line-written space (call .print-refused .ensures))
 
 slice-aggregate-read : tie.Need-slice-aggregate-read
 slice-aggregate-read c = search needs
@@ -61,7 +62,8 @@ returns-3 c =
     let short = given .before .before .before in
     let space = room (short .before) in
     told-read _ _ space (omega (arith, short .if2 .left))
-    (begins-as (read-refused _ (given .read .ensures) (test .if3 .taken)) (line-begins space (call .print-refused2 .ensures)))
+    (appended-as (sym (read-refused _ (given .read .ensures) (test .if3 .taken)))
+    (line-written space (call .print-refused2 .ensures)))
 
 print-refused-requires-3 : tie.Need-print-refused-requires-3
 print-refused-requires-3 c κs = search needs
@@ -79,8 +81,8 @@ returns-4 c =
     let short = given .before .before .before in
     let space = room (short .before) in
     told-read _ _ space (omega (arith, short .if2 .left))
-    (begins-as (rows-many (read-rows _ (given .read .ensures) (test .if3 .left)) (omega (arith, many .if4 .taken)))
-    (line-begins space (call .print-refused3 .ensures)))
+    (appended-as (sym (rows-many (read-rows _ (given .read .ensures) (test .if3 .left)) (omega (arith, many .if4 .taken))))
+    (line-written space (call .print-refused3 .ensures)))
 
 array-share-prefix-listed : tie.Need-array-share-prefix-listed
 array-share-prefix-listed c = search needs
@@ -110,7 +112,7 @@ returns-5 c =
     let given = test .before .before .before .before in
     let short = given .before .before .before in
     told-read _ _ (room (short .before)) (omega (arith, short .if2 .left))
-    (begins-as (rows-few (read-rows _ (given .read .ensures) (test .if3 .left)) (search needs) (search needs))
+    (appended-as (sym (rows-few (read-rows _ (given .read .ensures) (test .if3 .left)) (search needs) (search needs)))
     (call .print-rates .ensures))
 
 pub print-spec : {M : Type 1} → statement M

@@ -2,12 +2,13 @@
 -- Assumes nothing.
 use borrow.Author.Needs.{needs}
 use native.Mathlib.Omega.{arith}
-use mathlib.Core.Path.{refl}
+use mathlib.Core.Path.{refl, sym}
 use mathlib.Core.Logic.{⊎-elim}
 use Rattle.definitions.specs.Sizes.{ids}
+use Rattle.printer.proofs.Appending.{appended-as}
 use Rattle.maxmin.proofs.RatesGiven.{accepted-few}
 use Rattle.fairsheet.proofs.SheetTold.{accepted-listed, shared-accepted, shared-refused, shared-lines}
-use Rattle.fairsheet.proofs.SheetTold.{begins-as, line-begins}
+use Rattle.fairsheet.proofs.SheetTold.{line-written}
 use Rattle.fairsheet.proofs.print_rates.Statement.{statement}
 use Rattle.fairsheet.proofs.print_rates.Tie as tie
 
@@ -33,10 +34,10 @@ returns c =
     let match = call .before .before in
     let given = match .before .before in
     let start = given .before .before .before .before .before in
-    begins-as
-    (shared-refused _ _ _ refl (given .rates2 .ensures)
-    (λ e. ⊎-elim (λ h. omega (arith, rw e at h)) (λ h. omega (arith, rw e at h)) (match .match .keys2)))
-    (line-begins (start .pre) (call .print-refused .ensures))
+    appended-as
+    (sym (shared-refused _ _ _ refl (given .rates2 .ensures)
+    (λ e. ⊎-elim (λ h. omega (arith, rw e at h)) (λ h. omega (arith, rw e at h)) (match .match .keys2))))
+    (line-written (start .pre) (call .print-refused .ensures))
 
 slice-aggregate-put-rates : tie.Need-slice-aggregate-put-rates
 slice-aggregate-put-rates c = search needs
@@ -60,7 +61,7 @@ returns-2 c =
     let call = c .before .before in
     let told = call .before .before .before in
     let given = told .before .before .before in
-    begins-as (shared-lines _ _ _ refl (given .rates2 .ensures) (told .enum-told .given .1)) (call .put-rates .ensures)
+    appended-as (sym (shared-lines _ _ _ refl (given .rates2 .ensures) (told .enum-told .given .1))) (call .put-rates .ensures)
 
 pub print-rates-spec : {M : Type 1} → statement M
 print-rates-spec =
