@@ -64,11 +64,12 @@ unfolding computed twoRoomsLeft shownAt
 fullEarly-differs =
     told-apart fullEarly (opening (Join 3 privateKind 100 0 ∷ arrivals 31)) (arrival 3 1 64) 0 14 0 refl refl (λ e. omega arith)
 
--- a bucket of burst 1 is full, and has one token
+-- a tick at rate 1024 fills a bucket of burst 1, and it has one token
 drainedEarly-differs : Differs drainedEarly
 unfolding computed moreThanToken shownAt
 drainedEarly-differs =
-    told-apart drainedEarly (opening (Join 3 indifferentKind 100 1 ∷ [])) (arrival 3 1 64) 0 15 0 refl refl (λ e. omega arith)
+    told-apart drainedEarly (opening (Join 3 indifferentKind 1024 1 ∷ Tick ∷ [])) (arrival 3 1 64) 0 15 0 refl refl
+    (λ e. omega arith)
 
 -- the target is 369 of 400, which is 5's
 lowestId-differs : Differs lowestId

@@ -1,9 +1,9 @@
 -- The cases marked P (paper 01, "Cases marked P"), cases of the draw's throws (paper 02, S-1), and the printout of paper 01's
--- script (paper 01, "Script and printout").
+-- script (paper 01, "Script and printout") as S-4 of paper 02 amends it.
 -- A case is what the definitions give, beside what the paper says. A further case is one more entry of the list.
 use Prim.Native.Nat.{ℕ, zero, suc}
 use mathlib.Core.Path.{_≡_}
-use mathlib.Core.List.{List, [], _∷_, _++_, List·Memᴰ}
+use mathlib.Core.List.{List, [], _∷_, _++_, map, List·Memᴰ}
 use lib.ListN.{length, replicate, take}
 use Rattle.definitions.specs.Event.{Event, Open, Join, Change, Load, Arrive, Tick}
 use Rattle.definitions.specs.Sizes.{ids, indifferentKind, privateKind, firstCome}
@@ -65,6 +65,10 @@ arrival id handle length = Arrive id (record { handle = handle; length = length 
 abbrev pub arrivals : ℕ → List Event
 arrivals n = replicate n (arrival 3 1 64)
 
+-- n ticks, by which buckets fill
+abbrev pub slots : ℕ → List Event
+slots n = replicate n Tick
+
 unfoldable pub cases : List Case
 cases =
     -- P1 "seed 1 gives 270369, 67634689, 2647435461"
@@ -78,12 +82,12 @@ cases =
     said begun (arrival 3 1 63 ∷ arrival 3 2 1519 ∷ arrival 3 3 64 ∷ arrival 3 4 1518 ∷ [])
     gives 13 ∷ 13 ∷ 0 ∷ 0 ∷ [])
     -- P4 "the 32nd waiting packet is accepted; the 33rd gets 14 and takes no token"
-    ∷ (let begun = opened 1024 (Join 3 indifferentKind 100 64 ∷ []) in
+    ∷ (let begun = opened 1024 (Join 3 indifferentKind 1024 64 ∷ slots 64) in
     said begun (arrivals 33) ++ level (ran begun (arrivals 32)) 3 ∷ level (ran begun (arrivals 33)) 3 ∷ []
     gives replicate 32 0 ++ 14 ∷ 32768 ∷ 32768 ∷ [])
-    -- P5 "level 1023: 15; level 1024: accepted, 0 left"; the first packet empties the bucket, and a tick adds up to 1023
-    ∷ (let once = opened 1024 (Join 3 indifferentKind 1023 1 ∷ arrivals 1 ++ Tick ∷ []) in
-    let twice = ran once (Tick ∷ []) in
+    -- P5 "level 1023: 15; level 1024: accepted, 0 left"
+    ∷ (let once = opened 1024 (Join 3 indifferentKind 1023 1 ∷ slots 1) in
+    let twice = ran once (slots 1) in
     level once 3 ∷ said once (arrivals 1) ++ level twice 3 ∷ said twice (arrivals 1) ++ level (ran twice (arrivals 1)) 3 ∷ []
     gives 1023 ∷ 15 ∷ 1024 ∷ 0 ∷ 0 ∷ [])
     -- P6 "threshold 1000 with 800 held: rate 200 joins, 201 gets 10"
@@ -104,13 +108,13 @@ cases =
     gives none ∷ 1 ∷ 1 ∷ [])
     -- P10 "a type change with 3 waiting: none waits after it", from either type
     ∷ (let before = opened 1024 (Join 3 privateKind 100 0 ∷ arrivals 3) in
-    let after = ran before (Change 3 indifferentKind 100 3 ∷ arrivals 3) in
+    let after = ran before (Change 3 indifferentKind 1024 3 ∷ slots 3 ++ arrivals 3) in
     waiting before 3 ∷ waiting (ran before (Change 3 indifferentKind 100 3 ∷ [])) 3 ∷ []
     ++ waiting after 3 ∷ waiting (ran after (Change 3 privateKind 100 0 ∷ [])) 3 ∷ []
     gives 3 ∷ 0 ∷ 3 ∷ 0 ∷ [])
     -- P11 "discipline 0, accepted 3, 7, 3: they leave 3, 7, 3"
-    ∷ (let both = Join 3 indifferentKind 100 2 ∷ Join 7 indifferentKind 100 2 ∷ [] in
-    said (opened 1024 (both ++ arrival 3 31 64 ∷ arrival 7 70 65 ∷ arrival 3 32 66 ∷ [])) (Tick ∷ Tick ∷ Tick ∷ [])
+    ∷ (let both = opened 1024 (Join 3 indifferentKind 512 2 ∷ Join 7 indifferentKind 512 2 ∷ slots 4) in
+    said (ran both (arrival 3 31 64 ∷ arrival 7 70 65 ∷ arrival 3 32 66 ∷ [])) (slots 3)
     gives real ∷ 3 ∷ 31 ∷ 64 ∷ 0 ∷ real ∷ 7 ∷ 70 ∷ 65 ∷ 0 ∷ real ∷ 3 ∷ 32 ∷ 66 ∷ 0 ∷ [])
     -- P12 "join of an active id with type 9: 6"
     ∷ (said (opened 1024 (Join 3 privateKind 100 0 ∷ [])) (Join 3 9 100 0 ∷ [])
@@ -158,17 +162,17 @@ script =
 
 unfoldable pub printout : List Case
 printout =
-    -- "prints seven lines `(ok)` and then" six others
+    -- six lines `(ok)`; "both arrivals of client 3 are now refused with 15" (paper 02, S-4); then the four ticks, and the 13
     (said unopened script
-    gives replicate 7 0
-    ++ 15 ∷ []
-    ++ real ∷ 3 ∷ 90 ∷ 1518 ∷ 0 ∷ []
+    gives replicate 6 0
+    ++ 15 ∷ 15 ∷ []
     ++ idle ∷ 5 ∷ []
     ++ real ∷ 2 ∷ 17 ∷ 64 ∷ 1454 ∷ []
     ++ dummy ∷ 2 ∷ []
+    ++ idle ∷ 2 ∷ []
     ++ 13 ∷ [])
-    -- "The targets are 369, 289 and 261 of 400": those of the second, third and fourth tick
+    -- "the four ticks have the targets 369, 289, 261 and 95" (paper 02, S-4), "of 400"
     ∷ (let before : ℕ → Core = λ n. ran unopened (take n script) in
-    targetAt (before 9) ∷ targetAt (before 10) ∷ targetAt (before 11) ∷ sumBelow ids (privateRate (clientOf (before 9))) ∷ []
-    gives 369 ∷ 289 ∷ 261 ∷ 400 ∷ [])
+    map (λ n. targetAt (before n)) (8 ∷ 9 ∷ 10 ∷ 11 ∷ []) ++ sumBelow ids (privateRate (clientOf (before 8))) ∷ []
+    gives 369 ∷ 289 ∷ 261 ∷ 95 ∷ 400 ∷ [])
     ∷ []

@@ -45,15 +45,15 @@ nobody = record { kind = absent; rate = 0; burst = 0; level = 0 }
 abbrev pub withLevel : Client → ℕ → Client
 withLevel c level = record { kind = c .kind; rate = c .rate; burst = c .burst; level = level }
 
--- "A join starts with .. if indifferent, a full bucket." Of burst 0, full is 0.
+-- "A bucket now begins at level 0 after a join and after a change from private to indifferent" (paper 02, S-4).
 unfoldable pub joining : ℕ → ℕ → ℕ → Client
-joining kind rate burst = record { kind = kindOf kind; rate = rate; burst = burst; level = burst * shares }
+joining kind rate burst = record { kind = kindOf kind; rate = rate; burst = burst; level = 0 }
 
 -- "If the type stays, .. a level above the new burst × 1024 comes down to it."
 unfoldable pub retuned : Client → ℕ → ℕ → Client
 retuned c rate burst = record { kind = c .kind; rate = rate; burst = burst; level = min (c .level) (burst * shares) }
 
--- "If the type differs, .. a new indifferent client's bucket is full."
+-- If the type differs, the client is as after a join.
 unfoldable pub changed : Client → ℕ → ℕ → ℕ → Client
 changed c kind rate burst = cond (sameKind (c .kind) (kindOf kind)) (retuned c rate burst) (joining kind rate burst)
 

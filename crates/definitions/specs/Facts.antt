@@ -89,11 +89,12 @@ pub record ChangeFacts : Type 0 where
       → onChange s id kind rate burst .answer ≡ Accepted
       → s .clients id .kind ≡ kindOf kind
       → Has (onChange s id kind rate burst .core) id (s .side .stocks id) (min (s .clients id .level) (burst * shares))
-  -- "If the type differs, queue and pool become empty, and a new indifferent client's bucket is full."
+  -- "If the type differs, queue and pool become empty"; "A bucket now begins at level 0 after .. a change from private to
+  -- indifferent" (paper 02, S-4).
   pub change-empties : (s : State) (id kind rate burst : ℕ)
       → onChange s id kind rate burst .answer ≡ Accepted
       → s .clients id .kind ≢ kindOf kind
-      → Has (onChange s id kind rate burst .core) id bare (burst * shares)
+      → Has (onChange s id kind rate burst .core) id bare 0
   -- "the old rate is taken off before the threshold is checked": it is accepted if the rates without the old one and with the
   -- new one are within the threshold
   pub change-within : (s : State) (id kind rate burst : ℕ)
