@@ -202,7 +202,7 @@ pub level-after : LevelAfter
 unfolding LevelAfter
 level-after core id calls indifferently calm = stretch-moved core id indifferently calls calm .level
 
-shares-positive : 0 < shares
+pub shares-positive : 0 < shares
 unfolding shares
 shares-positive = lit< tt
 

@@ -11,6 +11,7 @@ pub mod Everything
 pub mod Facts
 pub mod Cases
 -- the claims of all histories
+pub mod Readings
 pub mod Limits
 pub mod Fits
 pub mod Bound

@@ -1,4 +1,5 @@
--- Stretches: of a client that offers all that it can (paper 02, S-10), and of steady settings (S-14).
+-- Stretches: of a client that offers all that it can (paper 02, S-10), of steady settings (S-14), and of a client that switches
+-- its type (S-4).
 pub mod Waiting
 pub mod Offering
 pub mod Greedy
@@ -7,3 +8,4 @@ pub mod Steady
 pub mod Guarantee
 pub mod GuaranteeBest
 pub mod GuaranteeExamples
+pub mod Switching

@@ -27,6 +27,7 @@ pub mod Stretch
 pub mod Bound
 pub mod Greedy
 pub mod Guarantee
+pub mod Switching
 pub mod FairRates
 pub mod Fairness
 pub mod Evenness
