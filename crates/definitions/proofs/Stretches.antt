@@ -9,3 +9,4 @@ pub mod Guarantee
 pub mod GuaranteeBest
 pub mod GuaranteeExamples
 pub mod Switching
+pub mod SwitchingExamples

@@ -34,6 +34,7 @@ pub mod Evenness
 pub mod Cases
 pub mod GreedyExamples
 pub mod GuaranteeExamples
+pub mod SwitchingExamples
 pub mod FairExamples
 -- what is easy to get wrong
 pub mod Facts

@@ -1,17 +1,19 @@
--- The calls behind a run are a stretch of the definitions, from the core that the tables of the run mean; so the bound, S-10 and
--- S-14 hold of what the code gave. That the core is within its limits is so of every run. Assumes nothing.
+-- The calls behind a run are a stretch of the definitions, from the core that the tables of the run mean; so the bound, S-4, S-10
+-- and S-14 hold of what the code gave. That the core is within its limits is so of every run. Assumes nothing.
 use Prim.Native.Nat.{ℕ, suc, _+_, _≤_}
 use mathlib.Core.Path.{_≡_, subst⁻¹}
 use lib.Dec.{T}
 use Rattle.definitions.specs.Client.{isIndifferent}
 use Rattle.definitions.specs.History.{History, Trace, clientOf}
-use Rattle.definitions.specs.Stretch.{stretch, ticks, undisturbed, acceptances, bought}
+use Rattle.definitions.specs.Stretch.{stretch, ticks, undisturbed, acceptances, tokens, bought}
 use Rattle.definitions.specs.Bound.{Bound}
 use Rattle.definitions.specs.Greedy.{Greedy}
 use Rattle.definitions.specs.Guarantee.{steady, picks, demand, sure}
+use Rattle.definitions.specs.Switching.{bucketOf, refills, topRate, admissions, affordable, BySpells, ByTicks}
 use Rattle.definitions.proofs.Bound.{bound}
 use Rattle.definitions.proofs.Stretches.Greedy.{rate-limited, greedy-exact}
 use Rattle.definitions.proofs.Stretches.Guarantee.{guarantee as guaranteed}
+use Rattle.definitions.proofs.Stretches.Switching.{switching as switched}
 use Rattle.tables.specs.declared.Control.{Control}
 use Rattle.tables.specs.Tables.{Tables}
 use Rattle.tables.specs.Meaning.{coreOf}
@@ -30,7 +32,7 @@ of-calls : (P : Trace → Type 0) {c d : Control} {t u : Tables} {trace : Trace}
 of-calls P {trace = trace} calls all = subst⁻¹ P (from-trace calls) (all (callsOf trace))
 
 pub code-stretch : CodeStretch
-unfolding Bound coreAfter
+unfolding Bound BySpells ByTicks coreAfter
 code-stretch = record {
   bound = λ run id calls.
       of-calls
@@ -47,6 +49,18 @@ code-stretch = record {
       greedy-exact .anywhere (coreAfter run) id history
       (rate-limited (coreAfter run) id (run-limits .limits run) (greedy .indifferently))
       greedy);
+  spells = λ run id calls.
+      of-calls
+      (λ t. admissions id (clientOf (coreAfter run) id) t ≤ affordable id (clientOf (coreAfter run) id) t)
+      calls
+      (switched .bySpells (coreAfter run) id);
+  switching = λ run id calls.
+      of-calls
+      (λ t. admissions id (clientOf (coreAfter run) id) t
+      ≤ tokens (bucketOf (clientOf (coreAfter run) id)) (topRate id (clientOf (coreAfter run) id) t)
+      (refills id (clientOf (coreAfter run) id) t))
+      calls
+      (switched .byTicks (coreAfter run) id);
   guarantee = λ run calls active.
       of-calls (λ t. T (steady t) → ticks t ≤ picks t + demand (coreAfter run) (ticks t)) calls
       (λ history. guaranteed .anywhere (coreAfter run) history (run-limits .limits run) active);
