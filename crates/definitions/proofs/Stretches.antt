@@ -10,3 +10,4 @@ pub mod GuaranteeBest
 pub mod GuaranteeExamples
 pub mod Switching
 pub mod SwitchingExamples
+pub mod FirstPacket

@@ -1,11 +1,11 @@
--- The cases marked P (paper 01, "Cases marked P"), cases of the draw's throws (paper 02, S-1), and the printout of paper 01's
--- script (paper 01, "Script and printout") as S-4 of paper 02 amends it.
+-- The cases marked P (paper 01, "Cases marked P"), cases of the draw's throws (paper 02, S-1) and of buckets that begin empty
+-- (S-4), and the printout of paper 01's script (paper 01, "Script and printout") as S-4 amends it.
 -- A case is what the definitions give, beside what the paper says. A further case is one more entry of the list.
 use Prim.Native.Nat.{ℕ, zero, suc}
 use mathlib.Core.Path.{_≡_}
 use mathlib.Core.List.{List, [], _∷_, _++_, map, List·Memᴰ}
 use lib.ListN.{length, replicate, take}
-use Rattle.definitions.specs.Event.{Event, Open, Join, Change, Load, Arrive, Tick}
+use Rattle.definitions.specs.Event.{Event, Open, Join, Change, Leave, Load, Arrive, Tick}
 use Rattle.definitions.specs.Sizes.{ids, indifferentKind, privateKind, firstCome}
 use Rattle.definitions.specs.Generator.{stepped}
 use Rattle.definitions.specs.Sample.{sample}
@@ -140,6 +140,30 @@ samples =
     -- "After the eighth throw in one draw the ninth value counts as it is": below the multiple, and not below it
     ∷ (taken 2147483649 8508 gives 468021351 ∷ 468021351 ∷ 9 ∷ [])
     ∷ (taken 2147483649 8868 gives 363875105 ∷ 2511358754 ∷ 9 ∷ [])
+    ∷ []
+
+-- S-4 of paper 02: "A bucket now begins at level 0 after a join and after a change from private to indifferent." Of client 3, what
+-- a packet gets and the level.
+unfoldable pub begun : List Case
+begun =
+    -- four ticks at rate 300 make a token, and three do not
+    (let joined = opened 1024 (Join 3 indifferentKind 300 2 ∷ []) in
+    said joined (arrivals 1) ++ said joined (slots 3 ++ arrivals 1) ++ said (ran joined (slots 4)) (arrivals 2)
+    gives 15 ∷ none ∷ none ∷ none ∷ 15 ∷ 0 ∷ 15 ∷ [])
+    -- so behind a change from private, whatever it was before
+    ∷ (let full = opened 1024 (Join 3 indifferentKind 1024 2 ∷ slots 2) in
+    let back = ran full (Change 3 privateKind 1024 0 ∷ Change 3 indifferentKind 300 2 ∷ []) in
+    level full 3 ∷ level back 3 ∷ said back (arrivals 1) ++ said (ran back (slots 4)) (arrivals 2)
+    gives 2048 ∷ 0 ∷ 15 ∷ 0 ∷ 15 ∷ [])
+    -- and behind a leave and a join
+    ∷ (let full = opened 1024 (Join 3 indifferentKind 1024 2 ∷ slots 2) in
+    level (ran full (Leave 3 ∷ Join 3 indifferentKind 1024 2 ∷ [])) 3 ∷ []
+    gives 0 ∷ [])
+    -- a change that keeps the type keeps the level
+    ∷ (let full = opened 1024 (Join 3 indifferentKind 1024 2 ∷ slots 2) in
+    let kept = ran full (Change 3 indifferentKind 1 64 ∷ []) in
+    level kept 3 ∷ level (ran full (Change 3 indifferentKind 1 1 ∷ [])) 3 ∷ said kept (arrivals 3)
+    gives 2048 ∷ 1024 ∷ 0 ∷ 0 ∷ 15 ∷ [])
     ∷ []
 
 -- the script of the paper, line by line

@@ -28,6 +28,7 @@ pub mod Bound
 pub mod Greedy
 pub mod Guarantee
 pub mod Switching
+pub mod FirstPacket
 pub mod FairRates
 pub mod Fairness
 pub mod Evenness

@@ -11,7 +11,8 @@ use Rattle.definitions.specs.Greedy.{Greedy}
 use Rattle.definitions.specs.Guarantee.{steady, picks, demand, sure}
 use Rattle.definitions.specs.Switching.{bucketOf, refills, topRate, admissions, affordable, BySpells, ByTicks}
 use Rattle.definitions.proofs.Bound.{bound}
-use Rattle.definitions.proofs.Stretches.Greedy.{rate-limited, greedy-exact}
+use Rattle.definitions.proofs.Limits.Client.{indifferent-limits}
+use Rattle.definitions.proofs.Stretches.Greedy.{greedy-exact}
 use Rattle.definitions.proofs.Stretches.Guarantee.{guarantee as guaranteed}
 use Rattle.definitions.proofs.Stretches.Switching.{switching as switched}
 use Rattle.tables.specs.declared.Control.{Control}
@@ -47,7 +48,7 @@ code-stretch = record {
       calls
       (λ history greedy.
       greedy-exact .anywhere (coreAfter run) id history
-      (rate-limited (coreAfter run) id (run-limits .limits run) (greedy .indifferently))
+      (indifferent-limits (coreAfter run) id (run-limits .limits run) (greedy .indifferently) .active .rateHigh)
       greedy);
   spells = λ run id calls.
       of-calls

@@ -4,12 +4,14 @@ use Prim.Native.Nat.{ℕ, _*_, _≤_}
 use mathlib.Core.Path.{_≡_, refl, sym, ap, subst}
 use mathlib.Core.Bool.{Bool, true, false, cond, false≢true}
 use native.Mathlib.Omega.{arith}
-use lib.Dec.{eqb}
+use lib.Dec.{T, eqb}
 use borrow.Author.Tests.{eqb-true}
 use Rattle.definitions.specs.Sizes.{shares, burstLimit, indifferentKind, privateKind}
 use Rattle.definitions.specs.Client.{Kind, absent, indifferent, private, kindOf, isActive, isIndifferent, Client, nobody, withLevel, joining, retuned, charged, refilled}
+use Rattle.definitions.specs.State.{Core, unopened, running}
 use Rattle.definitions.specs.Checks.{within, burstFits, termChecks}
-use Rattle.definitions.specs.Limits.{LimitsBy, ClientLimits}
+use Rattle.definitions.specs.History.{clientOf}
+use Rattle.definitions.specs.Limits.{IndifferentLimits, LimitsBy, ClientLimits, CoreLimits}
 use Rattle.definitions.proofs.Laws.Tests.{cond-both, within-true}
 use Rattle.definitions.proofs.Laws.Checked.{Passed}
 
@@ -136,3 +138,17 @@ module _ (c : Client) (parts : Parts c) where
   unfolding refilled
   refilled-parts =
       with-level _ (cond-both (λ (n : ℕ). n ≤ c .burst * shares) (isIndifferent (c .kind)) (omega arith) (parts .levels))
+
+-- an indifferent client of a core within the limits has the limits of its kind
+pub indifferent-limits : (core : Core) (id : ℕ)
+    → CoreLimits core
+    → T (isIndifferent (clientOf core id .kind))
+    → IndifferentLimits (clientOf core id)
+unfolding clientOf
+indifferent-limits unopened id known indifferently = absurd indifferently
+indifferent-limits (running s) id known indifferently = go (s .clients id .kind) (known .clientLimits id) indifferently
+  where
+    go : (k : Kind) → LimitsBy k (s .clients id) → T (isIndifferent k) → IndifferentLimits (s .clients id)
+    go absent l t = absurd t
+    go indifferent l t = l
+    go private l t = absurd t

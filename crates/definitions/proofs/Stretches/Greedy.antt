@@ -8,16 +8,17 @@ use native.Mathlib.Nat.{mul-le-mul-right, div-eq-of-lt-le}
 use native.Mathlib.Omega.{arith}
 use lib.Dec.{T}
 use Rattle.definitions.specs.Sizes.{shares}
-use Rattle.definitions.specs.Client.{Kind, absent, indifferent, private, Client, isIndifferent}
-use Rattle.definitions.specs.State.{Core, unopened, running}
+use Rattle.definitions.specs.Client.{Client}
+use Rattle.definitions.specs.State.{Core}
 use Rattle.definitions.specs.History.{History, start, _then_, after, clientOf, scheduler}
 use Rattle.definitions.specs.Sameness.{isTick}
-use Rattle.definitions.specs.Limits.{LimitsBy, CoreLimits, Limits}
+use Rattle.definitions.specs.Limits.{Limits}
 use Rattle.definitions.specs.Stretch.{stretch, behind, ticks, undisturbed, acceptances, tokens, bought}
 use Rattle.definitions.specs.Bound.{spill, spilt, LevelAfter}
 use Rattle.definitions.specs.Greedy.{refusedSince, refusedAtTicks, Greedy, GreedyExact}
 use Rattle.definitions.proofs.Laws.Tests.{T-and}
 use Rattle.definitions.proofs.Limits.{limits}
+use Rattle.definitions.proofs.Limits.Client.{indifferent-limits}
 use Rattle.definitions.proofs.Bound.{calm-before, stretch-moved, level-after}
 use Rattle.definitions.proofs.Stretches.Offering.{ended-before, offering-roomy, offering}
 
@@ -63,26 +64,13 @@ module _ (core : Core) (id : ℕ) (calls : History) (within : clientOf core id .
       let low = o .drained (ends .1) .1 in
       sym (div-eq-of-lt-le shares (omega (arith, level, none, low)) (omega (arith, level, none, low)))
 
--- within the limits no rate passes its own
-pub rate-limited : (core : Core) (id : ℕ)
-    → CoreLimits core
-    → T (isIndifferent (clientOf core id .kind))
-    → clientOf core id .rate ≤ shares
-unfolding clientOf
-rate-limited unopened id limited indifferently = absurd indifferently
-rate-limited (running s) id limited indifferently = go (s .clients id .kind) (limited .clientLimits id) indifferently
-  where
-    go : (k : Kind) → LimitsBy k (s .clients id) → T (isIndifferent k) → s .clients id .rate ≤ shares
-    go absent l t = absurd t
-    go indifferent l t = l .active .rateHigh
-    go private l t = absurd t
-
 pub greedy-exact : GreedyExact
 unfolding Limits
 greedy-exact = record {
   anywhere = exact;
   reached = λ h id calls greedy.
-      exact (after scheduler h) id calls (rate-limited (after scheduler h) id (limits h) (greedy .indifferently)) greedy;
+      exact (after scheduler h) id calls
+      (indifferent-limits (after scheduler h) id (limits h) (greedy .indifferently) .active .rateHigh) greedy;
   roomy = λ core id calls indifferently calm offers.
       let ends = T-and (refusedAtTicks id 15 (stretch core calls)) (refusedSince id 15 (stretch core calls)) offers in
       offering-roomy core id indifferently (offering core id indifferently calls calm (ends .0)) (ends .1);
