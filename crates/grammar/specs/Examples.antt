@@ -1,5 +1,6 @@
--- Examples beside the claims: the printout that paper 01 prints ("Script and printout"), one of bad lines, texts of demands
--- (paper 02, S-8), and two texts of which demand 3 on paper speaks, with what it compares there and what it does not.
+-- Examples beside the claims: the printout that paper 01 prints ("Script and printout") as S-4 of paper 02 amends it, one of bad
+-- lines, texts of demands (paper 02, S-8), and two texts of which demand 3 on paper speaks, with what it compares there and what
+-- it does not.
 use Prim.Native.Nat.{ℕ}
 use mathlib.Core.Path.{_≡_}
 use mathlib.Core.Bool.{_&&_}
@@ -16,7 +17,7 @@ unfoldable pub PaperPrintout : Type 0
 PaperPrintout =
     printout
     (bytes "(open 1024 0 1)\n(join 2 (private 300))\n(join 5 (private 100))\n(join 3 (indifferent 200 1))\n(load 2 1)\n(arrive 2 (packet 17 64))\n(arrive 3 (packet 90 1518))\n(arrive 3 (packet 91 64))\n(tick)\n(tick)\n(tick)\n(tick)\n(arrive 5 (packet 40 63))\n")
-    ≡ bytes "(ok)\n(ok)\n(ok)\n(ok)\n(ok)\n(ok)\n(ok)\n(refused 15)\n(slot (real 3 90 1518 0))\n(slot (idle 5))\n(slot (real 2 17 64 1454))\n(slot (dummy 2))\n(refused 13)\n"
+    ≡ bytes "(ok)\n(ok)\n(ok)\n(ok)\n(ok)\n(ok)\n(refused 15)\n(refused 15)\n(slot (idle 5))\n(slot (real 2 17 64 1454))\n(slot (dummy 2))\n(slot (idle 2))\n(refused 13)\n"
 
 -- bad lines of several kinds
 unfoldable pub BadPrintout : Type 0
@@ -36,12 +37,13 @@ pub record FairPrintouts : Type 0 where
   pub sizeNext : fairPrintout (bytes "(threshold 0)\n(demand 2 4294967296)\n") ≡ bytes "(refused 17)\n"
   pub unfair : fairPrintout (bytes "(threshold 0)\n(demand 2 4294967295)\n") ≡ bytes "(refused 22)\n"
 
--- Client 2 is private, and has a call in the one text and none in the other.
+-- Client 2 is private, and has a call in the one text and none in the other. Client 3 is indifferent, and two ticks bring it a
+-- token.
 abbrev pub opening : List ℕ
-opening = bytes "(open 1024 0 1)\n(join 2 (private 300))\n(join 5 (private 100))\n(join 3 (indifferent 200 1))\n"
+opening = bytes "(open 1024 0 1)\n(join 2 (private 300))\n(join 5 (private 100))\n(join 3 (indifferent 512 1))\n"
 
 abbrev pub slots : List ℕ
-slots = bytes "(arrive 3 (packet 90 1518))\n(tick)\n(tick)\n(tick)\n"
+slots = bytes "(arrive 3 (packet 90 1518))\n(tick)\n(tick)\n(arrive 3 (packet 90 1518))\n(tick)\n"
 
 abbrev pub call : List ℕ
 call = opening ++ bytes "(arrive 2 (packet 17 64))\n" ++ slots
@@ -53,19 +55,21 @@ silence = opening ++ slots
 pub record CallAndSilence : Type 0 where
   pub keptAlike : keptOf 5 (lines call) ≡ keptOf 5 (lines silence)
   pub callPrinted : printout call
-      ≡ bytes "(ok)\n(ok)\n(ok)\n(ok)\n(ok)\n(ok)\n(slot (real 3 90 1518 0))\n(slot (idle 5))\n(slot (real 2 17 64 1454))\n"
+      ≡ bytes "(ok)\n(ok)\n(ok)\n(ok)\n(ok)\n(refused 15)\n"
+      ++ bytes "(slot (idle 5))\n(slot (real 2 17 64 1454))\n(ok)\n(slot (real 3 90 1518 0))\n"
   pub silencePrinted : printout silence
-      ≡ bytes "(ok)\n(ok)\n(ok)\n(ok)\n(ok)\n(slot (real 3 90 1518 0))\n(slot (idle 5))\n(slot (idle 2))\n"
+      ≡ bytes "(ok)\n(ok)\n(ok)\n(ok)\n(refused 15)\n"
+      ++ bytes "(slot (idle 5))\n(slot (idle 2))\n(ok)\n(slot (real 3 90 1518 0))\n"
   pub chosenCalls : printedOf 5 (λ t d. names 5 (d .event)) (sheet call (printout call)) ≡ (2, bytes "(ok)\n") ∷ []
-  pub chosenSlots : printedOf 5 (λ t d. departure 5 d) (sheet call (printout call)) ≡ (6, bytes "(slot (idle 5))\n") ∷ []
+  pub chosenSlots : printedOf 5 (λ t d. departure 5 d) (sheet call (printout call)) ≡ (5, bytes "(slot (idle 5))\n") ∷ []
   pub indifferentCalls : printedOf 5 (λ t d. indifferentAt 3 t && names 3 (d .event)) (sheet call (printout call))
-      ≡ (4, bytes "(ok)\n") ∷ []
+      ≡ (4, bytes "(refused 15)\n") ∷ (7, bytes "(ok)\n") ∷ []
   pub indifferentSlots : printedOf 5 (λ t d. indifferentAt 3 t && departure 3 d) (sheet call (printout call))
-      ≡ (5, bytes "(slot (real 3 90 1518 0))\n") ∷ []
+      ≡ (8, bytes "(slot (real 3 90 1518 0))\n") ∷ []
   pub neighbourInCall : printedOf 5 (λ t d. departure 2 d) (sheet call (printout call))
-      ≡ (7, bytes "(slot (real 2 17 64 1454))\n") ∷ []
+      ≡ (6, bytes "(slot (real 2 17 64 1454))\n") ∷ []
   pub neighbourInSilence : printedOf 5 (λ t d. departure 2 d) (sheet silence (printout silence))
-      ≡ (7, bytes "(slot (idle 2))\n") ∷ []
+      ≡ (6, bytes "(slot (idle 2))\n") ∷ []
 
 -- Why the texts have at most 60,000 bytes: a longer one may keep the same calls, and prints 18 alone.
 abbrev pub tooLong : List ℕ
