@@ -9,7 +9,7 @@ mod maker;
 mod tally;
 
 use crate::core::{Answer, Call, Core, INDIFFERENT};
-use crate::maker::{arrival, call, Maker};
+use crate::maker::{arrival, call, Maker, Time};
 use crate::tally::{arguments, mix_answer, BLOCK};
 
 /// "a long run in which client 9 offers so"
@@ -55,9 +55,9 @@ impl Run {
         match self.phase {
             0 => Call::Open { threshold: 1024, discipline: c % 2, seed: d },
             1 => Call::Join { id: GREEDY, kind: INDIFFERENT, rate: rate_of(c), burst: 2 + d % 63 },
-            2 | 4 => arrival(GREEDY, c, d),
-            5..=8 => call(1 + a % 3395, b % 65536, c, d),
-            _ => Call::Tick, // phases 3 and 9
+            3 => arrival(GREEDY, c, d),
+            4..=7 => call(Time::Busy, 1 + a % 3395, b % 65536, c, d),
+            _ => Call::Tick, // phases 2 and 8
         }
     }
 
@@ -69,55 +69,49 @@ impl Run {
                 self.rate = rate_of(c);
                 2
             }
-            2 => after_offer(2, answer),
-            3 if d % 16 == 0 => self.start(level),
-            3 => 3,
-            4 => self.after_greedy_offer(answer),
-            9 => {
+            2 if d % 64 == 0 => self.start(level),
+            2 => 2,
+            3 => self.after_offer(answer),
+            8 => {
                 self.ticks = one_more(self.ticks);
-                if d % 1024 == 0 { 0 } else { 4 }
+                if d % 1024 == 0 { 0 } else { 3 }
             }
-            phase => phase + 1, // 0, and 5 to 8: "the next phase"
+            phase => phase + 1, // 0, and 4 to 7: "the next phase"
         };
     }
 
     /// "the stretch starts: L becomes the level of client 9 after this tick, n and g become 0,
-    /// phase 4".
+    /// phase 3".
     fn start(&mut self, level: u32) -> u32 {
         self.level = level;
         self.ticks = 0;
         self.accepted = 0;
-        4
+        3
     }
 
-    /// "if it was accepted, g + 1 and phase 4. If it was refused with 15 the offering ends: F + 1;
-    /// E + 1 if g = (L + n · R) / 1024; phase 5. If with 14, phase 0; else phase 4".
-    fn after_greedy_offer(&mut self, answer: &Answer) -> u32 {
-        if *answer == Answer::Accepted {
-            self.accepted = one_more(self.accepted);
-        }
-        if *answer == Answer::Refused(15) {
-            self.ended = one_more(self.ended);
-            if u64::from(self.accepted) == self.bought() {
-                self.exact = one_more(self.exact);
+    /// "if it was accepted, g + 1 and phase 3. If it was refused with 15 the offering ends: F + 1;
+    /// E + 1 if g = (L + n · R) / 1024; phase 4. If with 14, phase 0; else phase 3".
+    fn after_offer(&mut self, answer: &Answer) -> u32 {
+        match *answer {
+            Answer::Accepted => {
+                self.accepted = one_more(self.accepted);
+                3
             }
+            Answer::Refused(15) => {
+                self.ended = one_more(self.ended);
+                if u64::from(self.accepted) == self.bought() {
+                    self.exact = one_more(self.exact);
+                }
+                4
+            }
+            Answer::Refused(14) => 0,
+            _ => 3,
         }
-        after_offer(4, answer)
     }
 
     /// Paper 02, S-10: "exactly (level at the start + n × rate) / 1024, rounded down."
     fn bought(&self) -> u64 {
         (u64::from(self.level) + u64::from(self.ticks) * u64::from(self.rate)) / 1024
-    }
-}
-
-/// Phase 2: "phase 3 if it was refused with 15, phase 0 if with 14, else phase 2"; and phase 4
-/// likewise, with 5 and 4 for 3 and 2.
-fn after_offer(phase: u32, answer: &Answer) -> u32 {
-    match *answer {
-        Answer::Refused(15) => phase + 1,
-        Answer::Refused(14) => 0,
-        _ => phase,
     }
 }
 

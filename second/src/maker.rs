@@ -2,14 +2,34 @@
 
 use crate::core::{xorshift32, Call, INDIFFERENT};
 
-/// "A maker of calls keeps one 32-bit value v, at first the seed."
+/// "Busy times and quiet times take turns".
+#[derive(Debug, Clone, Copy, PartialEq, Eq)]
+pub enum Time {
+    Busy,
+    Quiet,
+}
+
+impl Time {
+    /// "a busy time ends with it and a quiet one begins, or the other way round."
+    fn other(self) -> Time {
+        match self {
+            Time::Busy => Time::Quiet,
+            Time::Quiet => Time::Busy,
+        }
+    }
+}
+
+/// "A maker of calls keeps one 32-bit value v, at first the seed", and whether its time is busy or
+/// quiet.
 pub struct Maker {
     v: u32,
+    time: Time,
 }
 
 impl Maker {
+    /// "the first is busy."
     pub fn new(seed: u32) -> Maker {
-        Maker { v: seed }
+        Maker { v: seed, time: Time::Busy }
     }
 
     /// "A draw steps it by xorshift32 ... and gives the new v."
@@ -27,10 +47,16 @@ impl Maker {
         [a, b, c, d]
     }
 
-    /// The next call of a long run: the table of calls, "With k = a mod 4096".
+    /// The next call of a long run: the table of calls, "With k = a mod 4096". "A call with
+    /// k = 4095 is the last of its time".
     pub fn next_call(&mut self) -> Call {
         let [a, b, c, d] = self.draws();
-        call(a % 4096, b, c, d)
+        let k = a % 4096;
+        let call = call(self.time, k, b, c, d);
+        if k == 4095 {
+            self.time = self.time.other();
+        }
+        call
     }
 }
 
@@ -58,8 +84,9 @@ pub fn arrival(id: u32, c: u32, d: u32) -> Call {
     Call::Arrive { id, handle: d, length: 63 + c % 1457 }
 }
 
-/// The table of calls, by k.
-pub fn call(k: u32, b: u32, c: u32, d: u32) -> Call {
+/// The table of calls, by k. From 517 to 3900 it is "in a busy time arrive ...; in a quiet time
+/// tick".
+pub fn call(time: Time, k: u32, b: u32, c: u32, d: u32) -> Call {
     let id = id_of(b);
     let kind = c % 3; // "A type is c mod 3."
     let rate = d % 33; // "A rate is d mod 33."
@@ -70,7 +97,7 @@ pub fn call(k: u32, b: u32, c: u32, d: u32) -> Call {
         161..=240 => Call::Change { id, kind, rate, burst },
         241..=260 => Call::Leave { id },
         261..=516 => Call::Load { id, count: c % 130 },
-        517..=3395 => arrival(id, c, d),
+        517..=3900 if time == Time::Busy => arrival(id, c, d),
         _ => Call::Tick,
     }
 }
