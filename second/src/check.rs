@@ -1,9 +1,12 @@
 //! The printed example, P1 to P12, every number of the table, the draw of S-1, the stretch of S-10,
-//! the figure of S-14 and the grammar of the script. Expected values are the papers' own; the seeds
-//! and values of S-1's draws and the figures of S-14 were reckoned apart from this program.
+//! the figure of S-14, the grammar of the script and the calls of a long run. Expected values are
+//! the papers' own; the seeds and values of S-1's draws and the figures of S-14 were reckoned apart
+//! from this program. "A bucket now begins at level 0" (paper 02, S-4): a case that needs tokens
+//! waits for them first.
 
 use crate::core::{even_draw, xorshift32, Answer, Call, Core, Draw, Opened, Outcome, INDIFFERENT,
                   PRIVATE};
+use crate::maker::{call, Maker, Time};
 use crate::script::{number, parse, run, sure, Line};
 
 fn printed(text: &str) -> String {
@@ -20,28 +23,42 @@ fn open(core: &mut Core, threshold: u32, discipline: u32, seed: u32) {
     assert_eq!(core.perform(&call), Answer::Accepted);
 }
 
-fn join(core: &mut Core, id: u32, kind: u32, rate: u32, burst: u32) -> Answer {
+pub fn join(core: &mut Core, id: u32, kind: u32, rate: u32, burst: u32) -> Answer {
     core.perform(&Call::Join { id, kind, rate, burst })
 }
 
-fn change(core: &mut Core, id: u32, kind: u32, rate: u32, burst: u32) -> Answer {
+pub fn change(core: &mut Core, id: u32, kind: u32, rate: u32, burst: u32) -> Answer {
     core.perform(&Call::Change { id, kind, rate, burst })
 }
 
-fn arrive(core: &mut Core, id: u32, handle: u32, length: u32) -> Answer {
+pub fn arrive(core: &mut Core, id: u32, handle: u32, length: u32) -> Answer {
     core.perform(&Call::Arrive { id, handle, length })
 }
 
-fn load(core: &mut Core, id: u32, count: u32) -> Answer {
+pub fn load(core: &mut Core, id: u32, count: u32) -> Answer {
     core.perform(&Call::Load { id, count })
 }
 
-fn opened(core: &Core) -> &Opened {
+pub fn opened(core: &Core) -> &Opened {
     core.opened.as_ref().unwrap()
 }
 
-fn level(core: &Core, id: usize) -> u32 {
+pub fn level(core: &Core, id: usize) -> u32 {
     opened(core).clients[id].as_ref().unwrap().level
+}
+
+pub fn ticks(core: &mut Core, times: u32) {
+    for _ in 0..times {
+        core.perform(&Call::Tick);
+    }
+}
+
+/// As many ticks as the bucket of an indifferent client takes to be full.
+pub fn fill(core: &mut Core, id: usize) {
+    let client = opened(core).clients[id].as_ref().unwrap();
+    let (top, rate) = (client.burst * 1024, client.rate);
+    ticks(core, (top - client.level).div_ceil(rate));
+    assert_eq!(level(core, id), top);
 }
 
 const EXAMPLE: &str = "(open 1024 0 1)
@@ -65,23 +82,29 @@ const EXAMPLE_PRINTOUT: &str = "(ok)
 (ok)
 (ok)
 (ok)
-(ok)
 (refused 15)
-(slot (real 3 90 1518 0))
+(refused 15)
 (slot (idle 5))
 (slot (real 2 17 64 1454))
 (slot (dummy 2))
+(slot (idle 2))
 (refused 13)
 ";
 
+/// S-4: "both arrivals of client 3 are now refused with 15, so the four ticks have the targets 369,
+/// 289, 261 and 95." So 5, 2, 2 and 2 are drawn; 2 has one packet and one dummy, 5 has neither.
 #[test]
 fn example() {
     assert_eq!(printed(EXAMPLE), EXAMPLE_PRINTOUT);
-    let first = xorshift32(1);
-    let second = xorshift32(first);
-    let third = xorshift32(second);
-    assert_eq!([first % 400, second % 400, third % 400], [369, 289, 261]);
+    let mut value = 1;
+    for target in [369, 289, 261, 95] {
+        value = xorshift32(value);
+        assert_eq!(value % 400, target);
+    }
 }
+
+const OK: &str = "(ok)\n";
+const NONE: &str = "(slot (none))\n";
 
 #[test]
 fn p1_generator() {
@@ -115,7 +138,8 @@ fn p3_lengths() {
 fn p4_places() {
     let mut core = Core::new();
     open(&mut core, 1024, 0, 1);
-    join(&mut core, 0, INDIFFERENT, 1, 64);
+    join(&mut core, 0, INDIFFERENT, 1024, 64);
+    fill(&mut core, 0);
     for handle in 1..=32 {
         assert_eq!(arrive(&mut core, 0, handle, 64), Answer::Accepted);
     }
@@ -129,11 +153,8 @@ fn p5_level() {
     let mut core = Core::new();
     open(&mut core, 1024, 0, 1);
     join(&mut core, 0, INDIFFERENT, 1, 1);
-    assert_eq!(arrive(&mut core, 0, 1, 64), Answer::Accepted);
-    assert_eq!(level(&core, 0), 0);
-    for _ in 0..1023 {
-        core.perform(&Call::Tick);
-    }
+    assert_eq!(arrive(&mut core, 0, 1, 64), Answer::Refused(15));
+    ticks(&mut core, 1023);
     assert_eq!(level(&core, 0), 1023);
     assert_eq!(arrive(&mut core, 0, 2, 64), Answer::Refused(15));
     core.perform(&Call::Tick);
@@ -187,24 +208,28 @@ fn p10_change_of_type() {
     for (old, old_burst, new, new_burst) in [(1, 9, 2, 0), (2, 0, 1, 9)] {
         let mut core = Core::new();
         open(&mut core, 1024, 0, 7);
-        join(&mut core, 1, old, 5, old_burst);
+        join(&mut core, 1, old, 512, old_burst);
+        ticks(&mut core, 8); // four tokens, if it is indifferent
         for handle in 0..3 {
             assert_eq!(arrive(&mut core, 1, handle, 64), Answer::Accepted);
         }
-        assert_eq!(change(&mut core, 1, new, 5, new_burst), Answer::Accepted);
+        assert_eq!(change(&mut core, 1, new, 512, new_burst), Answer::Accepted);
         assert!(opened(&core).clients[1].as_ref().unwrap().queue.is_empty());
-        assert_eq!(level(&core, 1), new_burst * 1024);
+        assert_eq!(level(&core, 1), 0);
     }
 }
 
 #[test]
 fn p11_first_come() {
-    let text = "(open 1024 0 7)\n(join 3 (indifferent 5 5))\n(join 7 (indifferent 5 5))\n\
+    // Four ticks give each client two tokens.
+    let text = "(open 1024 0 7)\n(join 3 (indifferent 512 5))\n(join 7 (indifferent 512 5))\n\
+                (tick)\n(tick)\n(tick)\n(tick)\n\
                 (arrive 3 (packet 1 64))\n(arrive 7 (packet 2 64))\n(arrive 3 (packet 3 64))\n\
                 (tick)\n(tick)\n(tick)\n(tick)\n";
     let wanted = "(slot (real 3 1 64 0))\n(slot (real 7 2 64 0))\n(slot (real 3 3 64 0))\n\
                   (slot (none))\n";
-    assert_eq!(printed(text), format!("{}{}", "(ok)\n".repeat(6), wanted));
+    assert_eq!(printed(text), format!("{}{}{}{}", OK.repeat(3), NONE.repeat(4), OK.repeat(3),
+                                      wanted));
 }
 
 #[test]
@@ -242,6 +267,7 @@ fn table_clients() {
         ("(leave 64)", "4"), ("(leave 3)", "5"), ("(load 64 0)", "4"), ("(load 3 256)", "5"),
         ("(load 1 256)", "11"), ("(load 2 256)", "12"), ("(arrive 64 (packet 0 0))", "4"),
         ("(arrive 3 (packet 0 0))", "5"), ("(arrive 1 (packet 0 0))", "13"),
+        ("(arrive 1 (packet 0 64))", "15"),
         ("(change 3 (private 0))", "5"), ("(change 64 (private 0))", "4"),
         ("(join 1 (private 0))", "6"), ("(join 3 (private 0))", "8"),
         ("(join 3 (indifferent 1025 0))", "8"), ("(join 3 (indifferent 1024 0))", "9"),
@@ -259,7 +285,8 @@ fn table_clients() {
 fn change_within_a_type() {
     let mut core = Core::new();
     open(&mut core, 1024, 0, 1);
-    join(&mut core, 1, INDIFFERENT, 10, 4);
+    join(&mut core, 1, INDIFFERENT, 512, 4);
+    fill(&mut core, 1);
     arrive(&mut core, 1, 8, 64);
     assert_eq!(level(&core, 1), 3072);
     change(&mut core, 1, INDIFFERENT, 10, 64);
@@ -273,35 +300,46 @@ fn change_within_a_type() {
     assert_eq!(opened(&core).clients[2].as_ref().unwrap().pool, 7);
 }
 
+/// Client 3 leaves with two packets waiting and joins again; two ticks later it has a token. Client
+/// 7 changes within its type, and its packets keep their place.
 #[test]
 fn order_over_leaves_and_changes() {
-    let text = "(open 1024 0 7)\n(join 3 (indifferent 5 5))\n(join 7 (indifferent 5 5))\n\
-                (arrive 3 (packet 1 64))\n(arrive 7 (packet 2 64))\n(arrive 3 (packet 3 64))\n\
-                (change 7 (indifferent 9 9))\n(leave 3)\n(join 3 (indifferent 5 5))\n\
-                (arrive 3 (packet 4 64))\n(arrive 7 (packet 5 64))\n\
-                (tick)\n(tick)\n(tick)\n(tick)\n";
-    let wanted = "(slot (real 7 2 64 0))\n(slot (real 3 4 64 0))\n(slot (real 7 5 64 0))\n\
+    let begin = "(open 1024 0 7)\n(join 3 (indifferent 512 5))\n(join 7 (indifferent 512 5))\n";
+    let calls = "(arrive 3 (packet 1 64))\n(arrive 7 (packet 2 64))\n(arrive 3 (packet 3 64))\n\
+                 (arrive 7 (packet 4 64))\n(arrive 7 (packet 5 64))\n\
+                 (change 7 (indifferent 512 9))\n(leave 3)\n(join 3 (indifferent 512 5))\n";
+    let end = "(tick)\n(tick)\n(arrive 3 (packet 6 64))\n(arrive 7 (packet 7 64))\n\
+               (tick)\n(tick)\n(tick)\n(tick)\n";
+    let text = format!("{}{}{}{}", begin, "(tick)\n".repeat(6), calls, end);
+    let wanted = "(slot (real 7 2 64 0))\n(slot (real 7 4 64 0))\n(ok)\n(ok)\n\
+                  (slot (real 7 5 64 0))\n(slot (real 3 6 64 0))\n(slot (real 7 7 64 0))\n\
                   (slot (none))\n";
-    assert_eq!(printed(text), format!("{}{}", "(ok)\n".repeat(11), wanted));
+    assert_eq!(printed(&text), format!("{}{}{}{}", OK.repeat(3), NONE.repeat(6), OK.repeat(8),
+                                       wanted));
 }
 
 #[test]
 fn weighted_draw_among_the_indifferent() {
-    // Rates 300 and 100, target 369 of 400: client 5 goes first, after which 2 alone waits.
-    let text = "(open 1024 1 1)\n(join 2 (indifferent 300 5))\n(join 5 (indifferent 100 5))\n\
-                (arrive 2 (packet 1 64))\n(arrive 2 (packet 2 64))\n(arrive 5 (packet 3 64))\n\
-                (tick)\n(tick)\n(tick)\n(tick)\n";
+    // Rates 300 and 100, target 369 of 400: client 5 goes first, after which 2 alone waits. The 11
+    // ticks before, which give them three tokens and one, draw nothing.
+    let begin = "(open 1024 1 1)\n(join 2 (indifferent 300 5))\n(join 5 (indifferent 100 5))\n";
+    let end = "(arrive 2 (packet 1 64))\n(arrive 2 (packet 2 64))\n(arrive 5 (packet 3 64))\n\
+               (tick)\n(tick)\n(tick)\n(tick)\n";
+    let text = format!("{}{}{}", begin, "(tick)\n".repeat(11), end);
     let wanted = "(slot (real 5 3 64 0))\n(slot (real 2 1 64 0))\n(slot (real 2 2 64 0))\n\
                   (slot (none))\n";
-    assert_eq!(printed(text), format!("{}{}", "(ok)\n".repeat(6), wanted));
+    assert_eq!(printed(&text), format!("{}{}{}{}", OK.repeat(3), NONE.repeat(11), OK.repeat(3),
+                                       wanted));
 }
 
-/// S-1: "The printout in document 01 stays right": its three draws throw nothing away.
+/// S-1: "The printout in document 01 stays right": its four draws, as S-4 has them, throw nothing
+/// away.
 #[test]
 fn s1_example() {
     assert_eq!(even_draw(1, 400), Draw { target: 369, generator: 270369, steps: 1 });
     assert_eq!(even_draw(270369, 400), Draw { target: 289, generator: 67634689, steps: 1 });
     assert_eq!(even_draw(67634689, 400), Draw { target: 261, generator: 2647435461, steps: 1 });
+    assert_eq!(even_draw(2647435461, 400), Draw { target: 95, generator: 307599695, steps: 1 });
 }
 
 /// Seed 1584200935 gives 4294967295, 253983. The largest multiple of 641 that is at most
@@ -375,9 +413,12 @@ fn s1_users() {
         open(&mut core, 1024, 1, 1584200935);
         join(&mut core, 2, kind, 300, burst);
         join(&mut core, 5, kind, 341, burst);
+        if kind == INDIFFERENT {
+            ticks(&mut core, 7); // two tokens each, and no draw
+        }
         for id in [2, 5] {
-            arrive(&mut core, id, id * 10, 1518);
-            arrive(&mut core, id, id * 10 + 1, 1518);
+            assert_eq!(arrive(&mut core, id, id * 10, 1518), Answer::Accepted);
+            assert_eq!(arrive(&mut core, id, id * 10 + 1, 1518), Answer::Accepted);
         }
         for (handle, generator) in [(20, 253983), (21, 4228382207)] {
             let outcome = Outcome::Real { id: 2, handle, length: 1518, padding: 0 };
@@ -407,8 +448,10 @@ fn s1_no_draw() {
     let mut core = Core::new();
     open(&mut core, 1024, 0, 1584200935);
     join(&mut core, 2, INDIFFERENT, 641, 1);
-    arrive(&mut core, 2, 1, 64);
-    core.perform(&Call::Tick);
+    fill(&mut core, 2);
+    assert_eq!(arrive(&mut core, 2, 1, 64), Answer::Accepted);
+    let outcome = Outcome::Real { id: 2, handle: 1, length: 64, padding: 0 };
+    assert_eq!(core.perform(&Call::Tick), Answer::Slot(outcome));
     assert_eq!(opened(&core).generator, 1584200935);
 }
 
@@ -435,10 +478,10 @@ fn offer(core: &mut Core, most: u32) -> (u32, u32) {
 
 /// S-10: a stretch of so many ticks, in which client 9 offers "before the first tick of a stretch
 /// and after each tick". Calls of others come before and after each tick.
-fn stretch(core: &mut Core, ticks: u32, most: u32, others: fn(&mut Core, u32)) -> Stretch {
+fn stretch(core: &mut Core, length: u32, most: u32, others: fn(&mut Core, u32)) -> Stretch {
     let (mut sum, end) = offer(core, most);
     let mut result = Stretch { accepted: vec![sum], met_14: end == 14 };
-    for n in 1..=ticks {
+    for n in 1..=length {
         others(core, 2 * n);
         core.perform(&Call::Tick);
         others(core, 2 * n + 1);
@@ -451,11 +494,11 @@ fn stretch(core: &mut Core, ticks: u32, most: u32, others: fn(&mut Core, u32)) -
 }
 
 /// S-10: "(level at the start + n × rate) / 1024, rounded down", for each n from 0.
-fn bought(start: u32, rate: u32, ticks: u32) -> Vec<u32> {
-    (0..=ticks).map(|n| (start + n * rate) / 1024).collect()
+fn bought(start: u32, rate: u32, length: u32) -> Vec<u32> {
+    (0..=length).map(|n| (start + n * rate) / 1024).collect()
 }
 
-/// A core with client 9, whose bucket is full.
+/// A core with client 9, whose bucket is empty, as it begins.
 fn core_with_9(discipline: u32, rate: u32, burst: u32) -> Core {
     let mut core = Core::new();
     open(&mut core, 1024, discipline, 1584200935);
@@ -463,91 +506,142 @@ fn core_with_9(discipline: u32, rate: u32, burst: u32) -> Core {
     core
 }
 
+/// The same, with a bucket that is full.
+fn core_with_full_9(discipline: u32, rate: u32, burst: u32) -> Core {
+    let mut core = core_with_9(discipline, rate, burst);
+    fill(&mut core, 9);
+    core
+}
+
 fn no_others(_: &mut Core, _: u32) {}
 
-/// Calls of clients 3 (indifferent) and 12 (private, and at times indifferent); beside a client 9
-/// that has all shares they are all refused.
+/// Calls of clients 3 (indifferent) and 12 (private, and at times indifferent for long enough to
+/// have a token); beside a client 9 that has all shares they are all refused.
 fn some_others(core: &mut Core, n: u32) {
     match n % 11 {
         0 => join(core, 3, INDIFFERENT, 1, 4),
         1 => join(core, 12, PRIVATE, 300, 0),
         2 => change(core, 12, INDIFFERENT, 200, 3),
-        3 => change(core, 12, PRIVATE, 100, 0),
+        3 if n % 3 == 0 => change(core, 12, PRIVATE, 100, 0),
         4 => load(core, 12, 9),
         5 if n % 5 == 0 => core.perform(&Call::Leave { id: 3 }),
         6 if n % 7 == 0 => core.perform(&Call::Leave { id: 12 }),
         7 | 8 => arrive(core, 12, n, 1000),
+        9 => change(core, 3, INDIFFERENT, 300, 4),
         _ => arrive(core, 3, n, 100),
     };
 }
 
-/// S-10: "the number accepted over n ticks is exactly (level at the start + n × rate) / 1024,
-/// rounded down", for burst 2 and n from 0 to 2500. The start is a full bucket, or, if `before` is
-/// not 0, what so many ticks put into one just emptied.
-fn exact(rate: u32, before: u32, discipline: u32, others: fn(&mut Core, u32)) {
-    let mut core = core_with_9(discipline, rate, 2);
-    if before > 0 {
+/// Cores with client 9 of burst 2, where S-10's stretch may start: its bucket is empty behind a
+/// join, or has what some ticks put into it, 2048 of which fill it at every rate; or it was full,
+/// then emptied, and has what some ticks put into it since; or a change from private emptied it.
+fn starts_with_9(discipline: u32, rate: u32) -> Vec<Core> {
+    let mut cores = Vec::new();
+    for before in [0, 1, 2, 5, 2048] {
+        let mut core = core_with_9(discipline, rate, 2);
+        ticks(&mut core, before);
+        cores.push(core);
+    }
+    for before in [0, 1, 2, 5] {
+        let mut core = core_with_full_9(discipline, rate, 2);
         assert_eq!(offer(&mut core, 9), (2, 15));
+        ticks(&mut core, before);
+        cores.push(core);
     }
-    for _ in 0..before {
-        core.perform(&Call::Tick);
-    }
+    let mut core = core_with_full_9(discipline, rate, 2);
+    change(&mut core, 9, PRIVATE, rate, 0);
+    change(&mut core, 9, INDIFFERENT, rate, 2);
+    cores.push(core);
+    cores
+}
+
+/// S-10: "the number accepted over n ticks is exactly (level at the start + n × rate) / 1024,
+/// rounded down", for n from 0 to 2500. Gives the level at the start.
+fn exact(mut core: Core, rate: u32, others: fn(&mut Core, u32)) -> u32 {
     let start = level(&core, 9);
     let result = stretch(&mut core, 2500, 9, others);
     assert!(!result.met_14);
-    assert_eq!(result.accepted, bought(start, rate, 2500), "{} {}", rate, before);
+    assert_eq!(result.accepted, bought(start, rate, 2500), "{} {}", rate, start);
+    start
 }
 
 #[test]
 fn s10_exact() {
     for rate in [1, 341, 1023, 1024] {
-        for before in [0, 1, 2, 5] {
-            for discipline in [0, 1] {
-                exact(rate, before, discipline, no_others);
-                exact(rate, before, discipline, some_others);
+        for discipline in [0, 1] {
+            let mut levels = Vec::new();
+            for core in starts_with_9(discipline, rate) {
+                exact(core.clone(), rate, no_others);
+                levels.push(exact(core, rate, some_others));
             }
+            assert_eq!([levels[0], levels[1], levels[4], levels[5]], [0, rate, 2048, 0]);
+            assert_eq!(levels[9], 0);
         }
     }
 }
 
-/// The calls of the others are not all refused, and their packets go out among those of client 9.
+/// The calls of the others are not all refused, and their packets go out among those of client 9;
+/// those of client 12 from both types.
 #[test]
 fn s10_others_are_served() {
     let mut core = core_with_9(1, 341, 2);
-    let mut ids = Vec::new();
+    let mut sent = Vec::new();
     for n in 0..500 {
         offer(&mut core, 9);
         some_others(&mut core, n);
-        if let Answer::Slot(Outcome::Real { id, .. }) = core.perform(&Call::Tick) {
-            ids.push(id);
+        if let Answer::Slot(Outcome::Real { id, padding, .. }) = core.perform(&Call::Tick) {
+            sent.push((id, padding));
         }
     }
-    assert!(ids.contains(&3) && ids.contains(&9) && ids.contains(&12));
+    for wanted in [(3, 0), (9, 0), (12, 0), (12, 518)] {
+        assert!(sent.contains(&wanted), "{:?}", wanted);
+    }
 }
 
 /// "of burst 2 or more": with burst 1 what passes 1024 at a refill is lost. At 1023 every second
-/// tick fills the bucket, at 341 every fourth; 1 and 1024 lose nothing.
+/// tick fills the bucket, at 341 every fourth; 1 and 1024 lose nothing. A full one has one packet
+/// more than an empty one.
 #[test]
 fn s10_burst_1() {
     for (rate, period) in [(1023, 2), (341, 4), (1, 1024), (1024, 1)] {
-        let mut core = core_with_9(0, rate, 1);
-        let result = stretch(&mut core, 2500, 9, some_others);
-        let wanted: Vec<u32> = (0..=2500).map(|n| 1 + n / period).collect();
-        assert!(!result.met_14);
-        assert_eq!(result.accepted, wanted);
-        assert_eq!(wanted == bought(1024, rate, 2500), rate == 1 || rate == 1024);
+        for full in [0, 1] {
+            let mut core = core_with_9(0, rate, 1);
+            ticks(&mut core, full * period);
+            assert_eq!(level(&core, 9), full * 1024);
+            let result = stretch(&mut core, 2500, 9, some_others);
+            let wanted: Vec<u32> = (0..=2500).map(|n| full + n / period).collect();
+            assert!(!result.met_14);
+            assert_eq!(result.accepted, wanted);
+            assert_eq!(wanted == bought(full * 1024, rate, 2500), rate == 1 || rate == 1024);
+        }
     }
     assert_eq!(bought(1024, 1023, 3), [1, 1, 2, 3]); // where 1, 1, 2, 2 are accepted
+    assert_eq!(bought(0, 1023, 3), [0, 0, 1, 2]); // where 0, 0, 1, 1 are accepted
 }
 
-/// "never meeting 14": before the first tick, of 33 bought only 32 have a place.
+/// "never meeting 14": before the first tick, of 33 bought only 32 have a place; of none bought
+/// none needs one.
 #[test]
 fn s10_meets_14_at_once() {
-    let mut core = core_with_9(0, 1, 33);
+    let mut core = core_with_full_9(0, 1024, 33);
     let result = stretch(&mut core, 0, 99, no_others);
     assert!(result.met_14);
     assert_eq!(result.accepted, [32]);
-    assert_eq!(bought(33 * 1024, 1, 0), [33]);
+    assert_eq!(bought(33 * 1024, 1024, 0), [33]);
+    let mut core = core_with_9(0, 1024, 33);
+    let result = stretch(&mut core, 0, 99, no_others);
+    assert!(!result.met_14);
+    assert_eq!(result.accepted, [0]);
+}
+
+/// Client 9 of burst 2 at rate 1023 behind 32 packets of client 3, which had its tokens at rate
+/// 1024 and kept them when it changed to 1.
+fn core_behind_32() -> Core {
+    let mut core = core_of(&[(3, INDIFFERENT, 1024, 64)]);
+    fill(&mut core, 3);
+    change(&mut core, 3, INDIFFERENT, 1, 64);
+    assert_eq!(join(&mut core, 9, INDIFFERENT, 1023, 2), Answer::Accepted);
+    core
 }
 
 /// Behind 32 packets of another client a burst of 2 is enough to meet 14: after tick 31 client 9
@@ -555,42 +649,64 @@ fn s10_meets_14_at_once() {
 /// What it got is exact up to there, and one short after ticks 32 and 33.
 #[test]
 fn s10_meets_14_later() {
-    for ticks in [30, 31, 33] {
-        let mut core = core_with_9(0, 1023, 2);
-        join(&mut core, 3, INDIFFERENT, 1, 64);
-        for handle in 0..32 {
-            assert_eq!(arrive(&mut core, 3, handle, 64), Answer::Accepted);
-        }
-        let result = stretch(&mut core, ticks, 9, no_others);
-        assert_eq!(result.met_14, ticks > 30);
+    for length in [30, 31, 33] {
+        let mut core = core_behind_32();
+        fill(&mut core, 9);
+        arrive_times(&mut core, 3, 32);
+        let result = stretch(&mut core, length, 9, no_others);
+        assert_eq!(result.met_14, length > 30);
         let mut wanted = bought(2048, 1023, 33);
         assert_eq!(wanted[30..], [31, 32, 33, 34]);
         wanted[32..].copy_from_slice(&[32, 33]);
-        assert_eq!(result.accepted, wanted[..=ticks as usize]);
+        assert_eq!(result.accepted, wanted[..=length as usize]);
     }
 }
 
-/// "until it is refused 15": one that stops after one packet each time is one behind at rate 1024.
-/// "after each tick": so is one that is silent after two ticks and then offers again.
+/// With a bucket that starts empty client 9 has 31 waiting behind the other's last packet, and
+/// never more: what it got is exact.
+#[test]
+fn s10_never_meets_14() {
+    let mut core = core_behind_32();
+    arrive_times(&mut core, 3, 32);
+    assert_eq!(level(&core, 9), 0);
+    let result = stretch(&mut core, 300, 9, no_others);
+    assert!(!result.met_14);
+    let wanted = bought(0, 1023, 300);
+    assert_eq!(wanted[30..34], [29, 30, 31, 32]);
+    assert_eq!(result.accepted, wanted);
+}
+
+/// "until it is refused 15": one that stops after one packet each time is one behind at rate 1024,
+/// if its bucket was full; in an empty one there is never more than one.
 #[test]
 fn s10_stops_early() {
-    let mut core = core_with_9(0, 1024, 2);
+    let mut core = core_with_full_9(0, 1024, 2);
     let result = stretch(&mut core, 300, 1, some_others);
     let wanted: Vec<u32> = (0..=300).map(|n| n + 1).collect();
     assert_eq!(result.accepted, wanted);
     assert_eq!(bought(2048, 1024, 300)[300], 302);
     let mut core = core_with_9(0, 1024, 2);
-    let before = stretch(&mut core, 10, 9, some_others).accepted[10];
-    core.perform(&Call::Tick);
-    core.perform(&Call::Tick);
-    core.perform(&Call::Tick);
-    let after = stretch(&mut core, 10, 9, some_others).accepted[10];
-    assert_eq!((before, after), (12, 12));
-    assert_eq!(bought(2048, 1024, 23)[23], 25);
+    let result = stretch(&mut core, 300, 1, some_others);
+    assert_eq!(result.accepted, bought(0, 1024, 300));
+}
+
+/// "after each tick": one that is silent after two ticks and then offers again is one behind.
+#[test]
+fn s10_silent_after_two_ticks() {
+    for (mut core, first, whole) in
+        [(core_with_full_9(0, 1024, 2), 12, 25), (core_with_9(0, 1024, 2), 10, 23)] {
+        let start = level(&core, 9);
+        let before = stretch(&mut core, 10, 9, some_others).accepted[10];
+        ticks(&mut core, 3);
+        let after = stretch(&mut core, 10, 9, some_others).accepted[10];
+        assert_eq!((before, after), (first, 12));
+        assert_eq!(bought(start, 1024, 23)[23], whole);
+        assert_eq!(before + after, whole - 1);
+    }
 }
 
 /// A core of threshold 1024 with these clients, each (id, type, rate, burst).
-fn core_of(clients: &[(u32, u32, u32, u32)]) -> Core {
+pub fn core_of(clients: &[(u32, u32, u32, u32)]) -> Core {
     let mut core = Core::new();
     open(&mut core, 1024, 0, 1);
     for &(id, kind, rate, burst) in clients {
@@ -622,6 +738,8 @@ fn s14_no_private_client() {
     assert_sure(&core_of(&[]), &none);
     assert_sure(&core_of(&[(4, INDIFFERENT, 1, 1)]), &none);
     let mut core = core_of(&[(4, INDIFFERENT, 1, 1), (1, PRIVATE, 9, 0)]);
+    assert_sure(&core, &[(1000, 1000), (1023, 1023), (1024, 1023)]); // from level 0
+    fill(&mut core, 4);
     assert_sure(&core, &[(1000, 999)]); // (1024 + 1000) / 1024 is 1
     change(&mut core, 1, INDIFFERENT, 9, 1);
     assert_sure(&core, &none);
@@ -643,12 +761,16 @@ fn s14_private_only() {
     assert_sure(&core, &every);
 }
 
-/// The clients of the printed example. Client 3 has 1024 and may send one packet in up to 5 ticks
-/// (1024 + 5 × 200 is 2024), two in 6 to 10, three in 11. Its arrival takes one from the level and
-/// adds one that waits, so that the figure stays; the tick that sends it moves the start.
+/// The clients of the printed example. Client 3 has an empty bucket and may send no packet in up to
+/// 5 ticks (5 × 200 is 1000), one in 6 to 10, two in 11. With 1024 it is one in up to 5 ticks (1024
+/// + 5 × 200 is 2024), two in 6 to 10, three in 11. Its arrival takes one from the level and adds
+/// one that waits, so that the figure stays; the tick that sends it moves the start.
 #[test]
 fn s14_one_indifferent_client() {
     let mut core = core_of(&[(2, PRIVATE, 300, 0), (5, PRIVATE, 100, 0), (3, INDIFFERENT, 200, 1)]);
+    let empty = [(0, 0), (1, 1), (2, 2), (5, 5), (6, 5), (10, 9), (11, 9), (1000, 805)];
+    assert_sure(&core, &empty); // 200000 / 1024 is 195
+    fill(&mut core, 3);
     let figures = [(0, 0), (1, 0), (2, 1), (5, 4), (6, 4), (10, 8), (11, 8), (1000, 804)];
     assert_sure(&core, &figures); // (1024 + 200000) / 1024 is 196
     arrive_times(&mut core, 3, 1);
@@ -659,11 +781,15 @@ fn s14_one_indifferent_client() {
 
 /// Rates 300 and 700 with 2 and 4 waiting and levels of 1024 each. For n = 1000 they are accepted
 /// at most 293 and 684 times, each rounded down (in one sum it would be 978), and 17 are left. The
-/// demand passes n for small n; it is n itself for 338, though it is one less than n for 337.
+/// demand passes n for small n; it is n itself for 338, though it is one less than n for 337. With
+/// nothing waiting and both buckets empty it is 292 and 683 for n = 1000, and 25 are left.
 #[test]
 fn s14_two_indifferent_clients() {
     let mut core =
         core_of(&[(1, PRIVATE, 24, 0), (4, INDIFFERENT, 300, 3), (8, INDIFFERENT, 700, 5)]);
+    assert_sure(&core, &[(0, 0), (1, 1), (2, 1), (3, 1), (4, 1), (7, 1), (8, 1), (1000, 25)]);
+    fill(&mut core, 4);
+    assert_eq!([level(&core, 4), level(&core, 8)], [3072, 5120]);
     arrive_times(&mut core, 4, 2);
     arrive_times(&mut core, 8, 4);
     assert_eq!([level(&core, 4), level(&core, 8)], [1024, 1024]);
@@ -671,20 +797,37 @@ fn s14_two_indifferent_clients() {
                          (339, 1), (1000, 17)]);
 }
 
-/// n × rate passes 32 bits. 4294967295 × 1023 is 4393751542785; with a level of 1024 a 1024th of it
-/// is 4290772992, with 65536 it is 4290773055, and so it is for 32 waiting and a level of 32768.
-/// Of 63 clients of rate 16, each with 32 waiting and 32768, each may have 67108895 accepted.
+/// n × rate passes 32 bits. 4294967295 × 1023 is 4393751542785; a 1024th of it is 4290772991. With
+/// a level of 1024 it is one more, with 65536 it is 4290773055, and so it is for 32 waiting and a
+/// level of 32768.
 #[test]
 fn s14_past_32_bits() {
     let n = 4294967295;
-    assert_sure(&core_of(&[(0, PRIVATE, 1, 0), (1, INDIFFERENT, 1023, 1)]), &[(n, 4194303)]);
+    let mut core = core_of(&[(0, PRIVATE, 1, 0), (1, INDIFFERENT, 1023, 1)]);
+    assert_sure(&core, &[(n, 4194304)]);
+    fill(&mut core, 1);
+    assert_sure(&core, &[(n, 4194303)]);
     let mut core = core_of(&[(0, PRIVATE, 1, 0), (1, INDIFFERENT, 1023, 64)]);
+    assert_sure(&core, &[(n, 4194304)]);
+    fill(&mut core, 1);
     assert_sure(&core, &[(n, 4194240)]);
     arrive_times(&mut core, 1, 32);
     assert_sure(&core, &[(n, 4194240)]);
+}
+
+/// 63 clients of rate 16. With empty buckets each may have 67108863 accepted in 4294967295 ticks;
+/// with 32 waiting and 32768 each may have 67108895.
+#[test]
+fn s14_many_indifferent_clients() {
+    let n = 4294967295;
     let mut core = core_of(&[(63, PRIVATE, 16, 0)]);
     for id in 0..63 {
         assert_eq!(join(&mut core, id, INDIFFERENT, 16, 64), Answer::Accepted);
+    }
+    assert_sure(&core, &[(n, 67108926)]); // 4294967295 - 63 × 67108863
+    assert_sure(&core, &[(63, 63), (64, 1), (300000, 4719)]); // 300000 - 63 × 4687
+    fill(&mut core, 0);
+    for id in 0..63 {
         arrive_times(&mut core, id, 32);
     }
     assert_sure(&core, &[(n, 67104894)]); // 4294967295 - 63 × 32 - 63 × 67108895
@@ -698,7 +841,8 @@ fn s14_rule_2() {
     assert!(!Core::new().is_private(2));
     assert!(!core_of(&[]).picks_private());
     assert!(!core_of(&[(3, INDIFFERENT, 1, 1)]).picks_private());
-    let mut core = core_of(&[(2, PRIVATE, 1, 0), (3, INDIFFERENT, 1, 1)]);
+    let mut core = core_of(&[(2, PRIVATE, 1, 0), (3, INDIFFERENT, 512, 1)]);
+    fill(&mut core, 3);
     assert!(core.is_private(2));
     for id in [0, 3, 63, 64, 4294967295] {
         assert!(!core.is_private(id));
@@ -708,14 +852,14 @@ fn s14_rule_2() {
     assert!(core.picks_private()); // a dummy
     arrive(&mut core, 2, 1, 64);
     assert!(core.picks_private()); // a packet
-    arrive(&mut core, 3, 1, 64);
+    arrive_times(&mut core, 3, 1);
     assert!(!core.picks_private());
     core.perform(&Call::Tick);
     assert!(core.picks_private());
 }
 
-/// The line in place of the printout. Behind the printed example client 3 has a level of 800 and
-/// nothing waiting: one packet in 2 ticks (1200), two in 10 (2800).
+/// The line in place of the printout. Behind the printed example, with its four ticks, client 3 has
+/// a level of 800 and nothing waiting: one packet in 2 ticks (1200), two in 10 (2800).
 #[test]
 fn s14_line() {
     let line = |text: &str, n| String::from_utf8(sure(text.as_bytes(), n)).unwrap();
@@ -762,20 +906,28 @@ fn s14_number() {
     assert_eq!(number(b"\xff"), None);
 }
 
-/// The printed example with a greedy client 3. In 5 ticks it sends once, and 4 picks are just what
-/// is sure; the sixth tick is a pick too, while the figure stays, since what its refill buys can
-/// only go out later.
+/// The printed example's clients with a greedy client 3, from a full bucket. In 5 ticks it sends
+/// once, and 4 picks are just what is sure; the sixth tick is a pick too, while the figure stays,
+/// since what its refill buys can only go out later. From an empty bucket none of the first six
+/// ticks sends: 5 picks in 5 ticks are just what is sure, and the sixth is one more.
 #[test]
 fn s14_sure_and_no_more() {
-    let mut core = core_of(&[(2, PRIVATE, 300, 0), (5, PRIVATE, 100, 0), (3, INDIFFERENT, 200, 1)]);
-    assert_sure(&core, &[(5, 4), (6, 4)]);
-    let mut picks = Vec::new();
-    for _ in 0..7 {
-        arrive(&mut core, 3, 1, 64);
-        picks.push(core.picks_private());
-        core.perform(&Call::Tick);
+    for full in [true, false] {
+        let clients = [(2, PRIVATE, 300, 0), (5, PRIVATE, 100, 0), (3, INDIFFERENT, 200, 1)];
+        let mut core = core_of(&clients);
+        if full {
+            fill(&mut core, 3);
+        }
+        let figure = if full { 4 } else { 5 };
+        assert_sure(&core, &[(5, figure), (6, figure)]);
+        let mut picks = Vec::new();
+        for _ in 0..7 {
+            arrive(&mut core, 3, 1, 64);
+            picks.push(core.picks_private());
+            core.perform(&Call::Tick);
+        }
+        assert_eq!(picks, [!full, true, true, true, true, true, false]);
     }
-    assert_eq!(picks, [false, true, true, true, true, true, false]);
 }
 
 /// Chance for the stretches below and for the lists of S-8: the generator's values, each the start
@@ -791,7 +943,8 @@ impl Chance {
     }
 }
 
-/// A core with two to six clients of both types, or of one, in the midst of their packets.
+/// A core with two to six clients of both types, or of one, in the midst of their packets; or just
+/// joined, with every bucket empty.
 fn chance_core(chance: &mut Chance) -> Core {
     let mut core = Core::new();
     open(&mut core, 1024, chance.below(2), 1 + chance.below(1000));
@@ -809,6 +962,8 @@ fn chance_core(chance: &mut Chance) -> Core {
             _ => join(&mut core, id, INDIFFERENT, rate, 1 + chance.below(64)),
         };
     }
+    let most = [1, 40, 600][chance.below(3) as usize];
+    ticks(&mut core, chance.below(most));
     for _ in 0..chance.below(150) {
         arrive(&mut core, chance.below(6), 1, 64);
         if chance.below(3) == 0 {
@@ -895,6 +1050,50 @@ fn s14_stretches() {
         nobody += u32::from(n > 0 && (0..64).all(|id| !core.is_private(id)));
     }
     assert!(just > 100 && more > 100 && nobody > 100, "{} {} {}", just, more, nobody);
+}
+
+/// docs/LONG_RUNS.md, "The calls": to which row of the table a k belongs, by the first letter of
+/// its call (`d` for load, which adds dummies), at both ends of each row and in both times.
+#[test]
+fn maker_rows() {
+    let ends = [0, 1, 160, 161, 240, 241, 260, 261, 516, 517, 3900, 3901, 4095];
+    for (time, wanted) in [(Time::Busy, "ojjccllddaatt"), (Time::Quiet, "ojjccllddtttt")] {
+        let letters: String = ends.iter().map(|&k| letter(&call(time, k, 1, 1, 1))).collect();
+        assert_eq!(letters, wanted);
+    }
+}
+
+fn letter(call: &Call) -> char {
+    match call {
+        Call::Open { .. } => 'o',
+        Call::Join { .. } => 'j',
+        Call::Change { .. } => 'c',
+        Call::Leave { .. } => 'l',
+        Call::Load { .. } => 'd',
+        Call::Arrive { .. } => 'a',
+        Call::Tick => 't',
+    }
+}
+
+/// "Busy times and quiet times take turns, and the first is busy." "A call with k = 4095 is the
+/// last of its time"; k is from the first of a call's four draws.
+#[test]
+fn maker_times() {
+    let mut maker = Maker::new(1);
+    let (mut v, mut busy, mut turns) = (1, true, 0);
+    for _ in 0..100_000 {
+        let k = xorshift32(v) % 4096;
+        for _ in 0..4 {
+            v = xorshift32(v);
+        }
+        let arrives = letter(&maker.next_call()) == 'a';
+        assert_eq!(arrives, busy && k >= 517 && k <= 3900);
+        if k == 4095 {
+            busy = !busy;
+            turns += 1;
+        }
+    }
+    assert!(turns > 10);
 }
 
 #[test]

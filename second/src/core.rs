@@ -1,5 +1,6 @@
 //! The slot core of paper 01: clients, queues, pools, buckets and the seven calls, with the draw
-//! of paper 02, S-1. Sentences quoted without a paper's number are paper 01's.
+//! of paper 02, S-1, and the buckets of S-4, which begin empty. Sentences quoted without a paper's
+//! number are paper 01's.
 //! Checking and doing are kept apart: `refusal` only looks, so "nothing changes".
 
 use std::collections::VecDeque;
@@ -58,10 +59,11 @@ pub struct Client {
 }
 
 impl Client {
-    /// "A join starts with an empty queue, a pool of 0 and, if indifferent, a full bucket."
-    /// A private client's burst is 0, so its level is 0.
+    /// "A join starts with an empty queue, a pool of 0" and, if indifferent, by paper 02, S-4: "A
+    /// bucket now begins at level 0 after a join and after a change from private to indifferent."
+    /// A private client has no bucket; its level is 0 and stays so.
     fn new(kind: u32, rate: u32, burst: u32) -> Client {
-        Client { kind, rate, burst, queue: VecDeque::new(), pool: 0, level: burst * 1024 }
+        Client { kind, rate, burst, queue: VecDeque::new(), pool: 0, level: 0 }
     }
 }
 
@@ -309,14 +311,15 @@ impl Opened {
         Answer::Accepted
     }
 
-    /// "A join starts with an empty queue, a pool of 0 and, if indifferent, a full bucket."
+    /// "A join starts with an empty queue, a pool of 0 and", if indifferent, a bucket "at level 0"
+    /// (paper 02, S-4).
     fn join(&mut self, id: u32, kind: u32, rate: u32, burst: u32) {
         self.clients[id as usize] = Some(Client::new(kind, rate, burst));
     }
 
-    /// "If the type differs, queue and pool become empty, and a new indifferent client's bucket
-    /// is full. If the type stays, queue and pool stay, and a level above the new burst × 1024
-    /// comes down to it."
+    /// "If the type differs, queue and pool become empty", and a new indifferent client's bucket
+    /// "begins at level 0" (paper 02, S-4). "If the type stays, queue and pool stay, and a level
+    /// above the new burst × 1024 comes down to it"; any other level stays as it is.
     fn change(&mut self, id: u32, kind: u32, rate: u32, burst: u32) {
         let client = self.client_mut(id);
         if client.kind != kind {
