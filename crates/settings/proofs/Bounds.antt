@@ -48,12 +48,11 @@ module _ (c : Control) (t : Tables) (sound : SoundCore c t) (id : ℕ) (below : 
   rates-high = omega (arith, sound .shape .ratesHeld, sound .limits .ratesHigh, sound .limits .thresholdHigh)
 
   -- before and after what the id had to send is emptied
-  pub room : (b : Control) → b ≡ withWaiting c (b .waiting) → (rate burst : ℕ) → rate ≤ shares → burst ≤ burstLimit
-      → Room b (t .terms) id rate burst
+  pub room : (b : Control) → b ≡ withWaiting c (b .waiting) → (rate : ℕ) → rate ≤ shares → Room b (t .terms) id rate
   unfolding shares
-  room b rest rate burst h l =
-      subst (λ (x : Control). Room x (t .terms) id rate burst) (sym rest)
-      (below, l, rate-held c t (sound .shape) id below (limits-own c t sound id below), omega (arith, rates-high))
+  room b rest rate h =
+      subst (λ (x : Control). Room x (t .terms) id rate) (sym rest)
+      (below, rate-held c t (sound .shape) id below (limits-own c t sound id below), omega (arith, rates-high))
 
   pub ready : Ready (t .stocks) (t .links) id
   ready = (sound .shape .sound, below, sound .shape .heads id below, count-high c t sound id below)

@@ -8,7 +8,7 @@ use mathlib.Core.List.{List}
 use borrow.Author.Tests.{ltb-true}
 use Rattle.definitions.specs.Event.{Change}
 use Rattle.definitions.specs.declared.Answer.the-variants.{Accepted, Refused}
-use Rattle.definitions.specs.Sizes.{ids}
+use Rattle.definitions.specs.Sizes.{ids, burstLimit}
 use Rattle.definitions.specs.Client.{Kind, kindOf, isActive, sameKind, Client, joining, retuned, changed}
 use Rattle.definitions.specs.State.{State, updated, put, emptied}
 use Rattle.definitions.specs.Checks.{rates, activeChecks, changeChecks}
@@ -87,8 +87,8 @@ module _ (c : Control) (t : Tables) (valid : Valid c t) (id kind rate burst : �
         terms-fit (stateOf c t .threshold) (rates (stateOf c t .clients) - stateOf c t .clients id .rate) kind rate burst
         (passed .1 .1)
 
-    pub change-room : Room c (t .terms) id rate burst
-    change-room = room c t sound id below c refl rate burst (fits .rateHigh) (fits .burstHigh)
+    pub change-room : Room c (t .terms) id rate × (burst ≤ burstLimit)
+    change-room = (room c t sound id below c refl rate (fits .rateHigh), fits .burstHigh)
 
     pub change-ready : Ready (t .stocks) (t .links) id
     change-ready = ready c t sound id below
@@ -110,8 +110,8 @@ module _ (c : Control) (t : Tables) (valid : Valid c t) (id kind rate burst : �
       bare : Emptied c t id b (tables (t .terms) stocks (t .handles) (t .lengths) links)
       bare = empties (t .terms) (t .handles) (t .lengths) (sound .shape)
 
-      pub change-room-bare : Room b (t .terms) id rate burst
-      change-room-bare = room c t sound id below b (bare .rest) rate burst (fits .rateHigh) (fits .burstHigh)
+      pub change-room-bare : Room b (t .terms) id rate
+      change-room-bare = room c t sound id below b (bare .rest) rate (fits .rateHigh)
 
       module _ (d : Control) (cast : Recast (withRates b (ratesAfter b (t .terms) id rate)) d id (kindOf kind)) where
         placement : Placement c t id kind rate burst b stocks links d

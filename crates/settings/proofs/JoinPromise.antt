@@ -81,8 +81,8 @@ module _ (c : Control) (t : Tables) (valid : Valid c t) (id kind rate burst : â„
         }
 
     module _ (b : Control) (quiet : Quiet c b id) where
-      pub join-room : Room b (t .terms) id rate burst
-      join-room = room c t sound id join-below b (quiet .rest) rate burst (fits .rateHigh) (fits .burstHigh)
+      pub join-room : Room b (t .terms) id rate
+      join-room = room c t sound id join-below b (quiet .rest) rate (fits .rateHigh)
 
       module _ (d : Control) (cast : Recast (withRates b (ratesAfter b (t .terms) id rate)) d id (kindOf kind)) where
         placement : Placement c t id kind rate burst b (withBare (t .stocks) id) (t .links) d

@@ -8,7 +8,7 @@ use native.Mathlib.Omega.{arith}
 use borrow.Author.Tests.{ltb-true}
 use Rattle.definitions.specs.Event.{Leave}
 use Rattle.definitions.specs.declared.Answer.the-variants.{Accepted, Refused}
-use Rattle.definitions.specs.Sizes.{ids, shares, indifferentKind, privateKind}
+use Rattle.definitions.specs.Sizes.{ids, indifferentKind, privateKind}
 use Rattle.definitions.specs.Client.{Client, nobody, kindOf, joining}
 use Rattle.definitions.specs.State.{updated, put, emptied}
 use Rattle.definitions.specs.Checks.{activeChecks, leaveChecks}
@@ -29,7 +29,7 @@ use Rattle.settings.proofs.Bounds.{room, ready}
 use Rattle.settings.proofs.Placing.{placedTables, Placement, placed-shape, placed-opened, placed-state}
 
 nobody-joins : joining 0 0 0 ≡ nobody
-unfolding joining kindOf indifferentKind privateKind shares
+unfolding joining kindOf indifferentKind privateKind
 nobody-joins = refl
 
 none-held : held nobody ≡ 0
@@ -62,8 +62,8 @@ module _ (c : Control) (t : Tables) (valid : Valid c t) (id : ℕ) where
       bare : Emptied c t id b (tables (t .terms) stocks (t .handles) (t .lengths) links)
       bare = empties (t .terms) (t .handles) (t .lengths) (sound .shape)
 
-      pub leave-room : Room b (t .terms) id 0 0
-      leave-room = room c t sound id below b (bare .rest) 0 0 (omega arith) (omega arith)
+      pub leave-room : Room b (t .terms) id 0
+      leave-room = room c t sound id below b (bare .rest) 0 (omega arith)
 
       module _ (d : Control) (cast : Recast (withRates b (ratesAfter b (t .terms) id 0)) d id (kindOf 0)) where
         placement : Placement c t id 0 0 0 b stocks links d

@@ -1,11 +1,11 @@
 -- The terms of a new client at an id that has nothing to send: the state has it in the place of the old one. Only the id's own
 -- terms and marks are written. Assumes nothing.
-use Prim.Native.Nat.{ℕ, _*_, _<_}
+use Prim.Native.Nat.{ℕ, _<_}
 use mathlib.Core.Path.{_≡_, refl, sym, ap, ap₂, subst, _∙_}
 use mathlib.Core.Bool.{true, false, cond}
 use mathlib.Core.List.{List, []}
 use lib.Dec.{eqb}
-use Rattle.definitions.specs.Sizes.{ids, shares}
+use Rattle.definitions.specs.Sizes.{ids}
 use Rattle.definitions.specs.Client.{Kind, absent, indifferent, private, kindOf, isIndifferent, isPrivate, Client, joining}
 use Rattle.definitions.specs.State.{updated, put, emptied}
 use Rattle.definitions.specs.Limits.{ClientLimits}
@@ -28,7 +28,7 @@ use Rattle.settings.proofs.Emptying.{emptied-count}
 -- the tables after
 abbrev pub placedTables : Tables → ℕ → ℕ → ℕ → Tables
 placedTables t id rate burst =
-    tables (withTerms (t .terms) id rate burst (burst * shares)) (t .stocks) (t .handles) (t .lengths) (t .links)
+    tables (withTerms (t .terms) id rate burst 0) (t .stocks) (t .handles) (t .lengths) (t .links)
 
 -- no kind is both
 apart-kinds : (k : Kind) → isPrivate k ≡ true → isIndifferent k ≡ false
@@ -59,9 +59,8 @@ module _ (c : Control) (t : Tables) (id kind rate burst : ℕ) (b : Control) (st
 
   own : (m : ℕ)
       → field m (after .terms) id
-      ≡ cond (eqb m levelColumn) (burst * shares)
-      (cond (eqb m burstColumn) burst (cond (eqb m rateColumn) rate (field m (t .terms) id)))
-  own m = terms-own (t .terms) (old .sizes .terms) id rate burst (burst * shares) (p .below) m
+      ≡ cond (eqb m levelColumn) 0 (cond (eqb m burstColumn) burst (cond (eqb m rateColumn) rate (field m (t .terms) id)))
+  own m = terms-own (t .terms) (old .sizes .terms) id rate burst 0 (p .below) m
 
   client-after : clientAt d after id ≡ joining kind rate burst
   unfolding clientAt joining
@@ -94,12 +93,12 @@ module _ (c : Control) (t : Tables) (id kind rate burst : ℕ) (b : Control) (st
   touch = record {
     below = p .below;
     sizes = record {
-      terms = terms-length (t .terms) (old .sizes .terms) id rate burst (burst * shares) (p .below);
+      terms = terms-length (t .terms) (old .sizes .terms) id rate burst 0 (p .below);
       stocks = old .sizes .stocks;
       handles = old .sizes .handles;
       lengths = old .sizes .lengths;
     };
-    onlyTerms = terms-only (t .terms) (old .sizes .terms) id rate burst (burst * shares) (p .below);
+    onlyTerms = terms-only (t .terms) (old .sizes .terms) id rate burst 0 (p .below);
     onlyStocks = λ m j l other. refl;
     packets = λ q other. refl;
     indifferents = p .cast .indifferent .others;

@@ -6,7 +6,7 @@ use mathlib.Core.Path.{_≡_}
 use mathlib.Core.Logic.{_≢_}
 use mathlib.Core.Bool.{Bool, false, cond}
 use mathlib.Core.List.{List, [], map}
-use Rattle.definitions.specs.Sizes.{ids, places, shares, burstLimit}
+use Rattle.definitions.specs.Sizes.{ids, places, shares}
 use Rattle.definitions.specs.Client.{Kind, isIndifferent, isPrivate}
 use Rattle.definitions.specs.State.{without, emptied}
 use Rattle.marks.specs.Marks.{marked}
@@ -20,8 +20,8 @@ use Rattle.tables.specs.Meaning.{kindAt, sideOf}
 use Rattle.tables.specs.Invariant.{Shape}
 
 -- what is asked of the numbers where terms are set, so that nothing wraps
-abbrev pub Room : Control → List ℕ → ℕ → ℕ → ℕ → Type 0
-Room c terms id rate burst = (id < ids) × (burst ≤ burstLimit) × (rateAt terms id ≤ c .rates) × (c .rates + rate < 2 ^ 32)
+abbrev pub Room : Control → List ℕ → ℕ → ℕ → Type 0
+Room c terms id rate = (id < ids) × (rateAt terms id ≤ c .rates) × (c .rates + rate < 2 ^ 32)
 
 -- what is asked where an id is emptied
 abbrev pub Ready : List ℕ → List ℕ → ℕ → Type 0

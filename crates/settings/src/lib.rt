@@ -22,9 +22,9 @@ use tables::UNOPENED;
 ghost use mathlib.Core.Path.{_≡_};
 ghost use mathlib.Core.Bool.{true};
 ghost use mathlib.Core.List.{List};
-ghost use Prim.Native.Nat.{ℕ, _+_, _-_, _*_, _^_, _≤_, _<_, min};
+ghost use Prim.Native.Nat.{ℕ, _+_, _-_, _^_, _≤_, _<_, min};
 ghost use Rattle.definitions.specs.Event.{Join, Change, Leave};
-ghost use Rattle.definitions.specs.Sizes.{ids, places, shares};
+ghost use Rattle.definitions.specs.Sizes.{ids, places, burstLimit};
 ghost use Rattle.definitions.specs.Client.{kindOf, isActive, sameKind};
 ghost use Rattle.definitions.specs.Checks.{within, burstFits, termChecks, joinChecks, changeChecks};
 ghost use Rattle.order.specs.Order.{Sound, Ordered};
@@ -83,7 +83,7 @@ fn set_terms(terms: &mut [u32; TERMS], id: u32, rate: u32, burst: u32, level: u3
     terms[(LEVEL + id) as usize] = level;
 }
 
-// Gives an id the terms of a new client, in the place of any that it had: the marks of the kind, and a full bucket.
+// Gives an id the terms of a new client, in the place of any that it had: the marks of the kind, and an empty bucket.
 // What the id has to send is emptied before.
 fn place_client(
     control: Control,
@@ -93,12 +93,12 @@ fn place_client(
     rate: u32,
     burst: u32,
 ) -> Control
-    requires { ⌜ Room control (now terms) id rate burst ⌝ }
+    requires { ⌜ Room control (now terms) id rate ⌝ }
     ensures { λ r. ⌜ Recast (withRates control (ratesAfter control (now (terms .entry)) id rate)) r id (kindOf kind) ⌝ }
-    ensures { λ r. ⌜ now (terms .exit) ≡ withTerms (now (terms .entry)) id rate burst (burst * shares) ⌝ }
+    ensures { λ r. ⌜ now (terms .exit) ≡ withTerms (now (terms .entry)) id rate burst 0 ⌝ }
 {
     let old = terms[(RATE + id) as usize];
-    set_terms(terms, id, rate, burst, burst * SHARES);
+    set_terms(terms, id, rate, burst, 0);
     recast(trade(control, old, rate), id, kind)
 }
 
@@ -110,7 +110,7 @@ fn least(a: u32, b: u32) -> u32
 
 // Gives a client of the same kind new terms: a level above the new burst comes down to it.
 fn retune(control: Control, terms: &mut [u32; TERMS], id: u32, rate: u32, burst: u32) -> Control
-    requires { ⌜ Room control (now terms) id rate burst ⌝ }
+    requires { ⌜ Room control (now terms) id rate × (burst ≤ burstLimit) ⌝ }
     ensures { λ r. ⌜ r ≡ withRates control (ratesAfter control (now (terms .entry)) id rate) ⌝ }
     ensures { λ r. ⌜ now (terms .exit)
         ≡ withTerms (now (terms .entry)) id rate burst (retunedLevel (now (terms .entry)) id burst) ⌝ }

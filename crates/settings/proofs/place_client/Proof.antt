@@ -1,7 +1,7 @@
 -- `settings::place_client` meets its contract: the id's terms are written, then the control follows.
 -- Assumes nothing.
 use borrow.Author.Needs.{needs}
-use Rattle.definitions.specs.Sizes.{ids, shares, burstLimit}
+use Rattle.definitions.specs.Sizes.{ids}
 use Rattle.tables.specs.Tables.{field}
 use Rattle.settings.proofs.place_client.Statement.{statement}
 use Rattle.settings.proofs.place_client.Tie as tie
@@ -22,10 +22,6 @@ element-copy-out-old : tie.Need-element-copy-out-old
 unfolding ids
 element-copy-out-old c = search needs
 
-mul-set-terms : tie.Need-mul-set-terms
-unfolding burstLimit
-mul-set-terms c = search needs
-
 set-terms-requires : tie.Need-set-terms-requires
 unfolding ids
 set-terms-requires c κs = search needs
@@ -39,7 +35,7 @@ unfolding ids
 recast-requires c κs = search needs
 
 returns : tie.Need-returns
-unfolding ids shares field
+unfolding ids field
 returns c =
     (rw (c .before .trade .ensures) at (c .recast .ensures), c .before .before .set-terms .ensures)
 
@@ -51,7 +47,6 @@ place-client-spec =
     cast-old
     mul-old
     element-copy-out-old
-    mul-set-terms
     set-terms-requires
     trade-requires
     recast-requires
