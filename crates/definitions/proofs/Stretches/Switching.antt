@@ -326,7 +326,8 @@ switching = record {
   bySpells = by-spells;
   byTicks = within;
   fromNothing = λ core id calls e. rw (bucket-none (clientOf core id) e) at (within core id calls);
-  nothingGained = λ h id moves stays greedy rate n. gained (after scheduler h) id moves stays (greedy-exact .reached h id stays greedy) rate n;
+  nothingGained = λ h id moves stays greedy.
+      gained (after scheduler h) id moves stays (greedy-exact .reached h id stays greedy);
 }
   where
     within : (core : Core) (id : ℕ) (calls : History)
