@@ -120,10 +120,10 @@ script() {
             id = int(k / 7) % 64
             if (k % 7 == 0) return "(join " id " (private 16))"
             if (k % 7 == 1) return "(load " id " " k % 100 ")"
-            if (k % 7 == 2) return "(change " id " (indifferent 16 64))"
-            if (k % 7 == 3) return arrival(id, k)
-            if (k % 7 == 5) return "(leave " id ")"
-            return k % 70 == 6 ? "(open 1024 1 " k ")" : "(tick)"
+            if (k % 7 == 2) return "(change " id " (indifferent 1024 64))"
+            if (k % 7 == 4) return arrival(id, k)
+            if (k % 7 == 6) return k % 70 == 69 ? "(open 1024 1 " k ")" : "(leave " id ")"
+            return "(tick)" # of which the first gives the bucket a packet
         }
         function line(k) {
             if (name == "calls") return k % 2 ? "(tick)" : arrival((k / 2 + 1) * 7 % 16, k / 2 + 1)
@@ -137,9 +137,11 @@ script() {
             return "letters without a form" (name == "one line" ? " and without a line feed" : "")
         }
         BEGIN {
-            if (name == "calls") { # 8 private and 8 indifferent clients
+            if (name == "calls") { # 8 private and 8 indifferent clients; 16 ticks give each bucket a packet, before any draw
                 open_and_join(0)
-                for (i = 0; i < 8; i++) print "(join " i " (private 64))\n(join " i + 8 " (indifferent 64 64))"
+                for (i = 8; i < 16; i++) print "(join " i " (indifferent 64 64))"
+                for (i = 0; i < 16; i++) print "(tick)"
+                for (i = 0; i < 8; i++) print "(join " i " (private 64))"
             } else if (name == "ticks") { # one private client with dummies
                 open_and_join(1, 1)
                 print "(load 0 255)"

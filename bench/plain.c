@@ -1,4 +1,4 @@
-/* The slot core of paper 01, with S-1 of paper 02, in plain C. Nothing is on the heap, and every call but join, change
+/* The slot core of paper 01, with S-1 and S-4 of paper 02, in plain C. Nothing is on the heap, and every call but join, change
    and leave takes constant time, besides one walk over marks in a draw and one in the refill. */
 #include "plain.h"
 
@@ -63,7 +63,7 @@ static inline plain_packet queue_pop(plain_core *core, uint32_t id, bool indiffe
     return core->packet[place];
 }
 
-/* Takes out all that the id holds but its level, and its marks and rate. */
+/* Takes out all that the id holds, its level too, and its marks and rate. */
 static void clear(plain_core *core, uint32_t id) {
     uint32_t rate = (uint32_t)core->rate[id];
     if (core->indifferent & mark(id)) {
@@ -82,7 +82,7 @@ static void clear(plain_core *core, uint32_t id) {
     core->pool[id] = core->head[id] = core->count[id] = 0;
 }
 
-/* Puts a client with an empty queue and pool, and a full bucket, where none is. */
+/* Puts a client where none is; queue, pool and bucket are empty there. */
 static void settle(plain_core *core, uint32_t id, uint32_t type, uint32_t rate, uint32_t burst) {
     if (type == PLAIN_INDIFFERENT) {
         core->indifferent |= mark(id);
@@ -92,7 +92,7 @@ static void settle(plain_core *core, uint32_t id, uint32_t type, uint32_t rate, 
     }
     core->rates += rate;
     core->rate[id] = (int32_t)rate;
-    core->cap[id] = core->level[id] = (int32_t)burst * FULL_LINK;
+    core->cap[id] = (int32_t)burst * FULL_LINK;
 }
 
 /* Checks 7 to 10 of join and change; held: the rates of the other clients. */

@@ -29,27 +29,15 @@ static inline uint64_t tick_code(plain_core *core) {
     return refused != 0 ? code_of(refused) : code_of_slot(&slot);
 }
 
-static void set_up(plain_core *core, uint32_t clients, uint32_t indifferents, uint32_t discipline,
-                   uint32_t depth) {
-    plain_open(core, LINK, discipline, SEED);
-    for (uint32_t id = 0; id < clients; id++) {
-        bool indifferent = id < indifferents;
-        plain_join(core, id, indifferent ? PLAIN_INDIFFERENT : PLAIN_PRIVATE, LINK / clients,
-                   indifferent ? BURST : 0);
-    }
-    for (uint32_t id = 0; id < clients; id++)
-        for (uint32_t i = 1; i < depth; i++) plain_arrive(core, id, id, SHORTEST);
-}
-
 /* The next id, round and round: with a remainder in its place one compiler would divide and another count. */
 static inline uint32_t next_id(uint32_t id, uint32_t clients) { return id + 1 < clients ? id + 1 : 0; }
 
-/* Everything that can be is drawn into the two loops, as it is into those of bench_run. */
+/* Everything that can be is drawn into one function, as it is into bench_run. */
 #define INLINED __attribute__((flatten))
 
-INLINED static uint64_t run_slots(plain_core *core, uint32_t clients, uint32_t rounds) {
+static uint64_t run_slots(plain_core *core, uint32_t first, uint32_t clients, uint32_t rounds) {
     uint64_t sum = 0;
-    for (uint32_t k = 0, id = 0; k < rounds; k++, id = next_id(id, clients)) {
+    for (uint32_t k = 0, id = first; k < rounds; k++, id = next_id(id, clients)) {
         sum += code_of(plain_arrive(core, id, k, SHORTEST + k % 1024));
         sum += tick_code(core);
     }
@@ -58,7 +46,7 @@ INLINED static uint64_t run_slots(plain_core *core, uint32_t clients, uint32_t r
 
 /* Four calls that are refused if the first id that nobody has is 64. The compiler does not know that number, nor of any two
    calls that they are for the same id, so that it cannot work out beforehand, or once for both, whether an id is too large. */
-INLINED static uint64_t run_refused(plain_core *core, uint32_t clients, uint32_t beyond, uint32_t rounds) {
+static uint64_t run_refused(plain_core *core, uint32_t clients, uint32_t beyond, uint32_t rounds) {
     uint64_t sum = 0;
     for (uint32_t k = 0, id = 0; k < rounds; k++, id = next_id(id, clients)) {
         sum += code_of(plain_arrive(core, beyond + k % 8, k, SHORTEST));
@@ -69,12 +57,29 @@ INLINED static uint64_t run_refused(plain_core *core, uint32_t clients, uint32_t
     return sum;
 }
 
-uint64_t plain_run(uint32_t privates, uint32_t indifferents, uint32_t discipline, uint32_t depth,
-                   uint32_t mode, uint32_t rounds) {
+/* A bucket begins empty (S-4), and rounds whose arrivals are refused, for ids that nobody has, fill it: of BURST packets, at rate
+   LINK / clients, it is full after BURST * clients ticks. The private clients join after them, so that none makes a draw. */
+static void join_all(plain_core *core, uint32_t clients, uint32_t indifferents) {
+    uint32_t rate = LINK / clients, ticks = BURST * clients;
+    for (uint32_t id = 0; id < indifferents; id++) plain_join(core, id, PLAIN_INDIFFERENT, rate, BURST);
+    run_slots(core, PLAIN_CLIENTS, PLAIN_CLIENTS + ticks, ticks);
+    for (uint32_t id = indifferents; id < clients; id++) plain_join(core, id, PLAIN_PRIVATE, rate, 0);
+}
+
+static void set_up(plain_core *core, uint32_t clients, uint32_t indifferents, uint32_t discipline,
+                   uint32_t depth) {
+    plain_open(core, LINK, discipline, SEED);
+    join_all(core, clients, indifferents);
+    for (uint32_t id = 0; id < clients; id++)
+        for (uint32_t i = 1; i < depth; i++) plain_arrive(core, id, id, SHORTEST);
+}
+
+INLINED uint64_t plain_run(uint32_t privates, uint32_t indifferents, uint32_t discipline, uint32_t depth,
+                           uint32_t mode, uint32_t rounds) {
     plain_core core = {0};
     uint32_t clients = privates + indifferents;
     set_up(&core, clients, indifferents, discipline, depth);
-    return mode == MODE_SLOTS ? run_slots(&core, clients, rounds)
+    return mode == MODE_SLOTS ? run_slots(&core, 0, clients, rounds)
                               : run_refused(&core, clients, mode, rounds);
 }
 

@@ -23,6 +23,19 @@ pub struct Tally {
     pub sum: u64,
 }
 
+// A stage of a sequence: ids join, with their kind and burst; some packets come into each queue; then rounds, with arrivals for
+// ids from one up to another.
+pub struct Stage {
+    pub first: u32,
+    pub end: u32,
+    pub kind: u32,
+    pub burst: u32,
+    pub each: u32,
+    pub from: u32,
+    pub to: u32,
+    pub rounds: u32,
+}
+
 // A number for each answer; the sum of them is what both implementations must agree on.
 fn code(answer: Answer) -> u64 {
     match answer {
@@ -51,27 +64,27 @@ fn outcome_code(outcome: Outcome) -> u64 {
     }
 }
 
-// Joins n clients at equal rates, the first of them indifferent.
-fn join_all(
+// Joins the ids from the first up to the end, each with the same terms.
+fn join_ids(
     control: Control,
     terms: &mut [u32; TERMS],
     stocks: &mut [u32; STOCKS],
     handles: &[u32; STORE],
     lengths: &[u32; STORE],
     links: &[u32; LINKS],
-    n: u32,
-    indifferents: u32,
+    first: u32,
+    end: u32,
+    kind: u32,
+    rate: u32,
+    burst: u32,
 ) -> Control
-    requires { ⌜ Valid control (tables (now terms) (now stocks) (now handles) (now lengths) (now links)) × (1 ≤ n) ⌝ }
-    ensures { λ r. ⌜ Valid r (tables (now (terms .exit)) (now (stocks .exit)) (now (handles .entry)) (now (lengths .entry)) (now (links .entry))) ⌝ }
+    requires { ⌜ Valid control (tables (now terms) (now stocks) (now handles) (now lengths) (now links)) ⌝ }
+    ensures { λ r. ⌜ Valid r
+        (tables (now (terms .exit)) (now (stocks .exit)) (now (handles .entry)) (now (lengths .entry)) (now (links .entry))) ⌝ }
 {
-    let rate = 1024 / n;
     let mut at = control;
-    let mut id: u32 = 0;
-    while id < n {
-        let indifferent = id < indifferents;
-        let kind = choose(indifferent, 1, 2);
-        let burst = choose(indifferent, 64, 0);
+    let mut id = first;
+    while id < end {
         let r = settings::join(
             at,
             terms,
@@ -88,10 +101,6 @@ fn join_all(
         id += 1;
     }
     at
-}
-
-fn choose(first: bool, a: u32, b: u32) -> u32 {
-    if first { a } else { b }
 }
 
 // Puts some packets into one queue.
@@ -326,15 +335,16 @@ fn traffic_rounds(
     handles: &mut [u32; STORE],
     lengths: &mut [u32; STORE],
     links: &mut [u32; LINKS],
+    first: u32,
     n: u32,
     rounds: u32,
 ) -> Tally
-    requires { ⌜ Valid control (tables (now terms) (now stocks) (now handles) (now lengths) (now links)) × (1 ≤ n) ⌝ }
+    requires { ⌜ Valid control (tables (now terms) (now stocks) (now handles) (now lengths) (now links)) × (first < n) ⌝ }
     ensures { λ r. ⌜ Valid (r .control)
         (tables (now (terms .exit)) (now (stocks .exit)) (now (handles .exit)) (now (lengths .exit)) (now (links .exit))) ⌝ }
 {
     let mut at = Tally { control, sum: 0 };
-    let mut id: u32 = 0;
+    let mut id = first;
     let mut k: u32 = 0;
     while k < rounds {
         at = traffic_round(
@@ -352,6 +362,111 @@ fn traffic_rounds(
         k += 1;
     }
     at
+}
+
+// The first stage has the indifferent clients, and fills their buckets, which begin empty (paper 02, S-4): of burst 64 and at
+// rate 1024 / n, a bucket is full after 64 * n rounds, whose arrivals are refused, for ids that nobody has. The private clients
+// join in the second stage, so that no tick of the first makes a draw.
+fn stage_of(k: u32, n: u32, indifferents: u32, each: u32, rounds: u32) -> Stage
+    requires { ⌜ (1 ≤ n) × (n ≤ 128) ⌝ }
+    ensures { λ r. ⌜ r .from < r .to ⌝ }
+{
+    if k == 0 {
+        let ticks = 64 * n;
+        return Stage {
+            first: 0,
+            end: indifferents,
+            kind: 1,
+            burst: 64,
+            each: 0,
+            from: IDS,
+            to: IDS + ticks,
+            rounds: ticks,
+        };
+    }
+    Stage {
+        first: indifferents,
+        end: n,
+        kind: 2,
+        burst: 0,
+        each,
+        from: 0,
+        to: n,
+        rounds,
+    }
+}
+
+fn run_stage(
+    control: Control,
+    terms: &mut [u32; TERMS],
+    stocks: &mut [u32; STOCKS],
+    handles: &mut [u32; STORE],
+    lengths: &mut [u32; STORE],
+    links: &mut [u32; LINKS],
+    n: u32,
+    s: Stage,
+) -> Tally
+    requires { ⌜ Valid control (tables (now terms) (now stocks) (now handles) (now lengths) (now links)) × (1 ≤ n)
+        × (s .from < s .to) ⌝ }
+    ensures { λ r. ⌜ Valid (r .control)
+        (tables (now (terms .exit)) (now (stocks .exit)) (now (handles .exit)) (now (lengths .exit)) (now (links .exit))) ⌝ }
+{
+    let joined = join_ids(
+        control,
+        terms,
+        stocks,
+        handles,
+        lengths,
+        links,
+        s.first,
+        s.end,
+        s.kind,
+        1024 / n,
+        s.burst,
+    );
+    let filled = fill_queues(joined, terms, stocks, handles, lengths, links, n, s.each);
+    traffic_rounds(
+        filled,
+        terms,
+        stocks,
+        handles,
+        lengths,
+        links,
+        s.from,
+        s.to,
+        s.rounds,
+    )
+}
+
+// Both stages, in one loop: the compiler draws a function in where it has one caller.
+fn run_stages(
+    control: Control,
+    terms: &mut [u32; TERMS],
+    stocks: &mut [u32; STOCKS],
+    handles: &mut [u32; STORE],
+    lengths: &mut [u32; STORE],
+    links: &mut [u32; LINKS],
+    n: u32,
+    indifferents: u32,
+    each: u32,
+    rounds: u32,
+) -> Tally
+    requires { ⌜ Valid control (tables (now terms) (now stocks) (now handles) (now lengths) (now links)) × (1 ≤ n) × (n ≤ 128) ⌝ }
+    ensures { λ r. ⌜ Valid (r .control)
+        (tables (now (terms .exit)) (now (stocks .exit)) (now (handles .exit)) (now (lengths .exit)) (now (links .exit))) ⌝ }
+{
+    let mut at = Tally { control, sum: 0 };
+    let mut k: u32 = 0;
+    while k < 2 {
+        let s = stage_of(k, n, indifferents, each, rounds);
+        at = run_stage(at.control, terms, stocks, handles, lengths, links, n, s);
+        k += 1;
+    }
+    at
+}
+
+fn choose(first: bool, a: u32, b: u32) -> u32 {
+    if first { a } else { b }
 }
 
 // A whole sequence on a fresh core: mode 0 is arrivals and ticks, mode 64 only refused calls.
@@ -398,40 +513,24 @@ pub extern "C" fn bench_run(
         1,
     );
     let begun = opened.control;
-    let joined = join_all(
+    let slots = mode == 0;
+    let served = run_stages(
         begun,
-        &mut terms,
-        &mut stocks,
-        &handles,
-        &lengths,
-        &links,
-        n,
-        indifferents,
-    );
-    let filled = fill_queues(
-        joined,
         &mut terms,
         &mut stocks,
         &mut handles,
         &mut lengths,
         &mut links,
         n,
+        indifferents,
         depth - 1,
+        choose(slots, rounds, 0),
     );
-    if mode == 0 {
-        return traffic_rounds(
-            filled,
-            &mut terms,
-            &mut stocks,
-            &mut handles,
-            &mut lengths,
-            &mut links,
-            n,
-            rounds,
-        ).sum;
+    if slots {
+        return served.sum;
     }
     refused_rounds(
-        filled,
+        served.control,
         &mut terms,
         &mut stocks,
         &mut handles,

@@ -28,28 +28,21 @@ unopened-requires c κs = search needs
 open-requires : tie.Need-open-requires
 open-requires c κs = c .before .before .before .before .before .unopened .ensures _ .1
 
-join-all-requires : tie.Need-join-all-requires
-join-all-requires c κs = search needs
+choose-requires : tie.Need-choose-requires
+choose-requires c κs = search needs
 
-fill-queues-requires : tie.Need-fill-queues-requires
-fill-queues-requires c κs = search needs
-
-traffic-rounds-requires : tie.Need-traffic-rounds-requires
-traffic-rounds-requires c κs =
-    let filled = c .before .before .before .before .before .before in
-    let joined = filled .before .before .before .before .before .before .before .before .before .before .before in
-    let begun = joined .before .before .before .before .before .before .before .before .before in
-    (filled .fill-queues .ensures, omega (arith, begun .before .before .if3 .left))
+run-stages-requires : tie.Need-run-stages-requires
+run-stages-requires c κs = search needs
 
 returns-6 : tie.Need-returns-6
 returns-6 c = search needs
 
 refused-rounds-requires : tie.Need-refused-rounds-requires
 refused-rounds-requires c κs =
-    let filled = c .before .before .before .before .before .before in
-    let joined = filled .before .before .before .before .before .before .before .before .before .before .before in
-    let begun = joined .before .before .before .before .before .before .before .before .before in
-    (filled .fill-queues .ensures, omega (arith, begun .before .before .if3 .left), omega (arith, begun .if5 .left))
+    let served = c .before .before .before .before .before .before in
+    let opened = served .before .before .before .before .before .before .before in
+    let begun = opened .before .before .before .before .before .before .before .before in
+    (served .run-stages .ensures, omega (arith, begun .before .before .if3 .left), omega (arith, begun .if5 .left))
 
 returns-7 : tie.Need-returns-7
 returns-7 c = search needs
@@ -66,9 +59,8 @@ bench-run-spec =
     returns-5
     unopened-requires
     open-requires
-    join-all-requires
-    fill-queues-requires
-    traffic-rounds-requires
+    choose-requires
+    run-stages-requires
     returns-6
     refused-rounds-requires
     returns-7)
