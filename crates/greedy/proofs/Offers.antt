@@ -17,7 +17,7 @@ use Rattle.greedy.specs.Stands.{Begins, Goes, Tells}
 
 -- one call: the four draws, the call that the phase makes of them, that it is taken, and the counts after it
 pub goes-once : (p : GreedyProgress) (t : Tables) {w : Draws} {call : Call} {r : Taken} {u : Tables} {level : ℕ} {k : Counts}
-    → Drawn (p .progress .maker .value) w
+    → Drawn (p .progress .maker) w
     → call ≡ callIn (p .counts .phase) (w .a) (w .b) (w .c) (w .d)
     → Takes call (w .maker) (p .progress) t r u
     → level ≡ levelIn (coreOf (r .progress .control) u)

@@ -1,7 +1,7 @@
 -- The phases of a run with a greedy client (docs/LONG_RUNS.md, "With a greedy client"): "The phase says which call comes next",
 -- and how the counts stand then. "All are numbers of 32 bits".
 use Prim.Native.Nat.{ℕ, _+_, _%_, _^_}
-use mathlib.Core.Bool.{cond, _||_}
+use mathlib.Core.Bool.{false, cond, _||_}
 use lib.Dec.{eqb}
 use Rattle.definitions.specs.declared.Answer.{Answer}
 use Rattle.definitions.specs.declared.Answer.the-variants.{Accepted, Refused, Slot}
@@ -16,27 +16,24 @@ use Rattle.greedy.specs.declared.Counts.{Counts}
 abbrev pub greedy : ℕ
 greedy = 9
 
--- the phases; 5 to 8 are of other clients' calls
+-- the phases; 4 to 7 are of other clients' calls
 abbrev pub opening : ℕ
 opening = 0
 
 abbrev pub joining : ℕ
 joining = 1
 
-abbrev pub draining : ℕ
-draining = 2
-
 abbrev pub pausing : ℕ
-pausing = 3
+pausing = 2
 
 abbrev pub offering : ℕ
-offering = 4
+offering = 3
 
 abbrev pub others : ℕ
-others = 5
+others = 4
 
 abbrev pub ticking : ℕ
-ticking = 9
+ticking = 8
 
 -- what an arrival is refused with where every place is taken, and where the bucket has no packet left
 abbrev pub noPlace : ℕ
@@ -53,14 +50,14 @@ risen n = (n + 1) % 2 ^ 32
 unfoldable pub rateFrom : ℕ → ℕ
 rateFrom c = 1 + c % shares
 
--- the column "call" of the table
+-- the column "call" of the table; the calls of the others are "of a busy time"
 unfoldable pub callIn : ℕ → ℕ → ℕ → ℕ → ℕ → Call
 callIn phase a b c d =
     cond (eqb phase opening) (Open shares (c % 2) d)
     (cond (eqb phase joining) (Join greedy indifferentKind (rateFrom c) (2 + d % 63))
-    (cond (eqb phase draining || eqb phase offering) (Arrive greedy (packetOf c d))
     (cond (eqb phase pausing || eqb phase ticking) Tick
-    (callAt (1 + a % 3395) (b % 65536) c d))))
+    (cond (eqb phase offering) (Arrive greedy (packetOf c d))
+    (callAt false (1 + a % 3395) (b % 65536) c d))))
 
 abbrev pub inPhase : Counts → ℕ → Counts
 inPhase k phase = record {
@@ -76,7 +73,7 @@ inPhase k phase = record {
 -- phase 1: "R becomes that rate; phase 2"
 unfoldable pub joined : Counts → ℕ → Counts
 joined k c = record {
-  phase = draining;
+  phase = pausing;
   rate = rateFrom c;
   level = k .level;
   ticks = k .ticks;
@@ -85,17 +82,7 @@ joined k c = record {
   exact = k .exact;
 }
 
--- an arrival was refused: what comes then if with 15; "phase 0 if with 14, else" the same phase
-unfoldable pub refusedThen : Counts → ℕ → Counts → Counts
-refusedThen k number spent = cond (eqb number noToken) spent (cond (eqb number noPlace) (inPhase k opening) k)
-
--- phase 2: "phase 3 if it was refused with 15, phase 0 if with 14, else phase 2"
-unfoldable pub drained : Counts → Answer → Counts
-drained k Accepted = k
-drained k (Refused number) = refusedThen k number (inPhase k pausing)
-drained k (Slot outcome) = k
-
--- "the stretch starts: L becomes the level of client 9 after this tick, n and g become 0, phase 4"
+-- "the stretch starts: L becomes the level of client 9 after this tick, n and g become 0, phase 3"
 abbrev pub started : Counts → ℕ → Counts
 started k level = record {
   phase = offering;
@@ -107,15 +94,15 @@ started k level = record {
   exact = k .exact;
 }
 
--- phase 3: "if d mod 16 is 0 the stretch starts ..; else phase 3"
+-- phase 2: "if d mod 64 is 0 the stretch starts ..; else phase 2"
 unfoldable pub paused : Counts → ℕ → ℕ → Counts
-paused k d level = cond (eqb (d % 16) 0) (started k level) k
+paused k d level = cond (eqb (d % 64) 0) (started k level) k
 
 -- "(L + n · R) / 1024": what was bought up to here
 unfoldable pub bought : Counts → ℕ
 bought k = tokens (k .level) (k .rate) (k .ticks)
 
--- "the offering ends: F + 1; E + 1 if g = (L + n · R) / 1024; phase 5"
+-- "the offering ends: F + 1; E + 1 if g = (L + n · R) / 1024; phase 4"
 unfoldable pub ended : Counts → Counts
 ended k = record {
   phase = others;
@@ -127,7 +114,7 @@ ended k = record {
   exact = cond (eqb (k .accepted) (bought k)) (risen (k .exact)) (k .exact);
 }
 
--- "if it was accepted, g + 1 and phase 4"
+-- "if it was accepted, g + 1 and phase 3"
 abbrev pub given : Counts → Counts
 given k = record {
   phase = k .phase;
@@ -139,13 +126,17 @@ given k = record {
   exact = k .exact;
 }
 
--- phase 4: what was accepted is counted; "If it was refused with 15 the offering ends .. If with 14, phase 0; else phase 4"
+-- "If it was refused with 15 the offering ends .. If with 14, phase 0; else phase 3"
+unfoldable pub refusedWith : Counts → ℕ → Counts
+refusedWith k number = cond (eqb number noToken) (ended k) (cond (eqb number noPlace) (inPhase k opening) k)
+
+-- phase 3: an arrival is accepted or refused
 unfoldable pub offered : Counts → Answer → Counts
 offered k Accepted = given k
-offered k (Refused number) = refusedThen k number (ended k)
+offered k (Refused number) = refusedWith k number
 offered k (Slot outcome) = k
 
--- phase 9: "n + 1; phase 0 if d mod 1024 is 0, else phase 4"
+-- phase 8: "n + 1; phase 0 if d mod 1024 is 0, else phase 3"
 unfoldable pub ticked : Counts → ℕ → Counts
 ticked k d = record {
   phase = cond (eqb (d % 1024) 0) opening offering;
@@ -158,12 +149,11 @@ ticked k d = record {
 }
 
 -- the column "then" of the table, by the call's answer, its draws c and d, and the level that it left client 9; behind 0 as
--- behind 5 to 8 it is "the next phase"
+-- behind 4 to 7 it is "the next phase"
 unfoldable pub turned : Counts → Answer → ℕ → ℕ → ℕ → Counts
 turned k answer c d level =
     cond (eqb (k .phase) joining) (joined k c)
-    (cond (eqb (k .phase) draining) (drained k answer)
     (cond (eqb (k .phase) pausing) (paused k d level)
     (cond (eqb (k .phase) offering) (offered k answer)
     (cond (eqb (k .phase) ticking) (ticked k d)
-    (inPhase k (risen (k .phase)))))))
+    (inPhase k (risen (k .phase))))))

@@ -23,7 +23,7 @@ ghost use Rattle.tables.specs.Meaning.{coreOf};
 ghost use Rattle.tables.specs.Invariant.{Valid};
 ghost use Rattle.runs.specs.LongRun.{block};
 ghost use Rattle.greedy.specs.Phases.{risen, rateFrom, callIn, bought, ended};
-ghost use Rattle.greedy.specs.Phases.{refusedThen, drained, offered, joined, paused, ticked, turned};
+ghost use Rattle.greedy.specs.Phases.{refusedWith, offered, joined, paused, ticked, turned};
 ghost use Rattle.greedy.specs.GreedyRun.{levelIn};
 ghost use Rattle.greedy.specs.Stands.{Begins, Goes, Tells};
 
@@ -35,15 +35,13 @@ const OPENING: u32 = 0;
 
 const JOINING: u32 = 1;
 
-const DRAINING: u32 = 2;
+const PAUSING: u32 = 2;
 
-const PAUSING: u32 = 3;
+const OFFERING: u32 = 3;
 
-const OFFERING: u32 = 4;
+const OTHERS: u32 = 4;
 
-const OTHERS: u32 = 5;
-
-const TICKING: u32 = 9;
+const TICKING: u32 = 8;
 
 // What an arrival is refused with where every place is taken, and where the bucket has no packet left.
 const NO_PLACE: u32 = 14;
@@ -84,11 +82,10 @@ fn rate_from(c: u32) -> u32
     1 + c % SHARES
 }
 
-// The call of a phase, from four draws.
+// The call of a phase, from four draws. Other clients' calls are those of a busy time.
 fn call_in(phase: u32, a: u32, b: u32, c: u32, d: u32) -> Call
     ensures { λ r. ⌜ r ≡ callIn phase a b c d ⌝ }
 {
-    let packet = runs::packet_of(c, d);
     match phase {
         OPENING => Call::Open {
             threshold: SHARES,
@@ -101,11 +98,12 @@ fn call_in(phase: u32, a: u32, b: u32, c: u32, d: u32) -> Call
             rate: rate_from(c),
             burst: 2 + d % 63,
         },
-        DRAINING => Call::Arrive { id: GREEDY, packet },
-        PAUSING => Call::Tick,
-        OFFERING => Call::Arrive { id: GREEDY, packet },
-        TICKING => Call::Tick,
-        _ => runs::call_of(1 + a % 3395, b % 65536, c, d),
+        PAUSING | TICKING => Call::Tick,
+        OFFERING => Call::Arrive {
+            id: GREEDY,
+            packet: runs::packet_of(c, d),
+        },
+        _ => runs::call_of(false, 1 + a % 3395, b % 65536, c, d),
     }
 }
 
@@ -129,12 +127,12 @@ fn end(counts: Counts) -> Counts
     next
 }
 
-// After an arrival that was refused: what no token left for it leads to is given.
-fn refuse(counts: Counts, number: u32, spent: Counts) -> Counts
-    ensures { λ r. ⌜ r ≡ refusedThen counts number spent ⌝ }
+// After an arrival that was refused.
+fn refuse(counts: Counts, number: u32) -> Counts
+    ensures { λ r. ⌜ r ≡ refusedWith counts number ⌝ }
 {
     if number == NO_TOKEN {
-        return spent;
+        return end(counts);
     }
     let mut next = counts;
     if number == NO_PLACE {
@@ -143,20 +141,7 @@ fn refuse(counts: Counts, number: u32, spent: Counts) -> Counts
     next
 }
 
-// After an arrival before the stretch.
-fn drain(counts: Counts, answer: Answer) -> Counts
-    ensures { λ r. ⌜ r ≡ drained counts answer ⌝ }
-{
-    let mut spent = counts;
-    spent.phase = PAUSING;
-    match answer {
-        Answer::Accepted => counts,
-        Answer::Refused { number } => refuse(counts, number, spent),
-        Answer::Slot { outcome: _ } => counts,
-    }
-}
-
-// After an arrival of the stretch.
+// After an arrival.
 fn offer(counts: Counts, answer: Answer) -> Counts
     ensures { λ r. ⌜ r ≡ offered counts answer ⌝ }
 {
@@ -166,7 +151,7 @@ fn offer(counts: Counts, answer: Answer) -> Counts
             next.accepted = rise(counts.accepted);
             next
         }
-        Answer::Refused { number } => refuse(counts, number, end(counts)),
+        Answer::Refused { number } => refuse(counts, number),
         Answer::Slot { outcome: _ } => next,
     }
 }
@@ -176,7 +161,7 @@ fn join(counts: Counts, c: u32) -> Counts
     ensures { λ r. ⌜ r ≡ joined counts c ⌝ }
 {
     let mut next = counts;
-    next.phase = DRAINING;
+    next.phase = PAUSING;
     next.rate = rate_from(c);
     next
 }
@@ -186,7 +171,7 @@ fn pause(counts: Counts, d: u32, level: u32) -> Counts
     ensures { λ r. ⌜ r ≡ paused counts d level ⌝ }
 {
     let mut next = counts;
-    if d % 16 == 0 {
+    if d % 64 == 0 {
         next.phase = OFFERING;
         next.level = level;
         next.ticks = 0;
@@ -215,7 +200,6 @@ fn turn(counts: Counts, answer: Answer, c: u32, d: u32, level: u32) -> Counts
     next.phase = rise(phase);
     match phase {
         JOINING => join(counts, c),
-        DRAINING => drain(counts, answer),
         PAUSING => pause(counts, d, level),
         OFFERING => offer(counts, answer),
         TICKING => tick(counts, d),

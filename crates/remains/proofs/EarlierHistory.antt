@@ -13,13 +13,13 @@ use Rattle.definitions.specs.Calls.{onOpen}
 use Rattle.definitions.specs.Core.{step}
 use Rattle.definitions.proofs.Laws.Checked.{checked-anyway, checked-accepted}
 use Rattle.grammar.specs.Calls.{eventOf}
-use Rattle.runs.specs.Calls.{callAt, callOf}
-use Rattle.runs.specs.LongRun.{begun, nthDraw, callFrom, taken, next, after, block}
+use Rattle.runs.specs.Calls.{callAt}
+use Rattle.runs.specs.LongRun.{begunOn, begun, nthDraw, callFrom, taken, next, after, block}
 use Rattle.runs.specs.Advance.{repeated}
 use Rattle.remains.specs.Started.{behind, started, OpensFirst, EarlierUnseen}
 
 module _ (seed : ℕ) (first : OpensFirst seed) where
-  step-anywhere : (core : Core) → step core (eventOf (callFrom seed)) ≡ step unopened (eventOf (callFrom seed))
+  step-anywhere : (core : Core) → step core (eventOf (callFrom false seed)) ≡ step unopened (eventOf (callFrom false seed))
   unfolding step onOpen
   step-anywhere core =
       let checks = openChecks (first .threshold) (first .discipline) (first .generator) in
@@ -29,7 +29,7 @@ module _ (seed : ℕ) (first : OpensFirst seed) where
       ∙ sym (checked-accepted checks (unchanged unopened) made (first .accepts)))
 
   next-behind : (earlier : ℕ) → next (behind earlier seed) ≡ next (begun seed)
-  unfolding next behind begun
+  unfolding next behind begunOn
   next-behind earlier = ap (taken (begun seed)) (step-anywhere (after earlier block .core))
 
   next-started : (earlier : ℕ) → next (started earlier seed) ≡ next (begun seed)
@@ -47,5 +47,5 @@ earlier-unseen earlier seed (suc calls) first = ap next (earlier-unseen earlier 
 
 -- the seed of the tests
 pub tested-opens : OpensFirst 4369
-unfolding callFrom callOf callAt nthDraw stepped xorLeft xorRight step onOpen checked openChecks within shares weightedDraw
+unfolding callFrom callAt nthDraw stepped xorLeft xorRight step onOpen checked openChecks within shares weightedDraw
 tested-opens = record { threshold = 618; discipline = 0; generator = 316840187; opens = refl; accepts = refl }

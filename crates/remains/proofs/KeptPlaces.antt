@@ -126,7 +126,7 @@ module _ (number : ℕ) (t : Tables) where
 module _ {p q : Progress} {t u : Tables} {calls : ℕ} (number : ℕ) (g : Goes calls p t q u) where
   goes-rewritten : Goes calls p t q (overwrittenTables number u)
   goes-rewritten = record {
-    run = ap (λ (x : Core). record { core = x; value = q .maker .value; check = q .check })
+    run = ap (λ (x : Core). record { core = x; value = q .maker .generator .value; quiet = q .maker .quiet; check = q .check })
         (overwrittenUnused-core number u (q .control) (g .valid)) ∙ g .run;
     valid = overwrittenUnused-valid number u (q .control) (g .valid);
   }

@@ -2,7 +2,6 @@
 // arguments are the seed, how many blocks, the number that is written wherever no packet waits, and the seed of an earlier
 // history on the same core, or 0 for none.
 use definitions::PLACES;
-use generator::Generator;
 use libc::STDERR_FILENO;
 use order::END;
 use order::LINKS;
@@ -144,11 +143,9 @@ fn start(
     let first = runs::begin(earlier);
     let left = runs::calls(first, terms, stocks, handles, lengths, links, BLOCK);
     let control = left.control;
-    Progress {
-        control,
-        maker: Generator::new(seed),
-        check: 0,
-    }
+    let mut anew = runs::begin(seed);
+    anew.control = control;
+    anew
 }
 
 // Prints the line of the last of so many blocks. The seeds stand here for the contract: what is printed is their check.

@@ -12,7 +12,7 @@ use Rattle.tables.specs.Invariant.{Valid}
 use Rattle.runs.specs.declared.Progress.{Progress}
 use Rattle.runs.specs.declared.Draws.{Draws}
 use Rattle.runs.specs.declared.Taken.{Taken}
-use Rattle.runs.specs.Calls.{callOf}
+use Rattle.runs.specs.Calls.{callAt, kOf}
 use Rattle.runs.specs.LongRun.{LongRun, taken, callFrom, next, after}
 use Rattle.runs.specs.Advance.{repeated, BeginsAs, Advances}
 use Rattle.runs.specs.Stands.{runOf, Begins, Drawn, Takes, Goes}
@@ -49,15 +49,15 @@ module _ {P R : Type 0} {control : P → Control} {meaning : P → Tables → R}
 
 -- what a run has behind a call that is taken
 pub takes-run : (p : Progress) (t : Tables) {w : Draws} {call : Call} {r : Taken} {u : Tables}
-    → Drawn (p .maker .value) w
+    → Drawn (p .maker) w
     → Takes call (w .maker) p t r u
     → runOf (r .progress) u ≡ taken (runOf p t) (step (coreOf (p .control) t) (eventOf call))
-takes-run p t drawn k = cc (k .meets .core, k .meets .answer, k .maker, k .check, drawn .maker)
+takes-run p t drawn k = cc (k .meets .core, k .meets .answer, k .maker, k .check, drawn .value, drawn .quiet)
 
 -- one call: the four draws, the call that they make, and that it is taken
 pub goes-once : (p : Progress) (t : Tables) {w : Draws} {call : Call} {r : Taken} {u : Tables}
-    → Drawn (p .maker .value) w
-    → call ≡ callOf (w .a) (w .b) (w .c) (w .d)
+    → Drawn (p .maker) w
+    → call ≡ callAt (p .maker .quiet) (kOf (w .a)) (w .b) (w .c) (w .d)
     → Takes call (w .maker) p t r u
     → Goes 1 p t (r .progress) u
 unfolding repeated next callFrom

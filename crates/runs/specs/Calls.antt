@@ -1,7 +1,7 @@
 -- The calls of a long run (docs/LONG_RUNS.md, "The calls"). "Each call takes four draws, a, b, c and d, in this order,
 -- whatever call it is."
 use Prim.Native.Nat.{ℕ, _+_, _*_, _/_, _%_}
-use mathlib.Core.Bool.{cond}
+use mathlib.Core.Bool.{Bool, not, cond}
 use lib.Dec.{eqb, leb}
 use Rattle.definitions.specs.declared.Packet.{Packet}
 use Rattle.grammar.specs.declared.Call.{Call}
@@ -26,17 +26,23 @@ burstOf kind d = cond (eqb kind 1) (d / 64 % 66) (d / 64 % 66 / 65)
 abbrev pub packetOf : ℕ → ℕ → Packet
 packetOf c d = record { handle = d; length = 63 + c % 1457 }
 
--- the table of the calls, by the last k of each row: the rows of load, arrive and tick, and then the whole
-unfoldable pub trafficAt : ℕ → ℕ → ℕ → ℕ → Call
-trafficAt k id c d = cond (leb k 516) (Load id (c % 130)) (cond (leb k 3395) (Arrive id (packetOf c d)) Tick)
+-- the table of the calls, by the last k of each row: load, "in a busy time arrive ..; in a quiet time tick" and tick; then all
+unfoldable pub trafficAt : Bool → ℕ → ℕ → ℕ → ℕ → Call
+trafficAt quiet k id c d =
+    cond (leb k 516) (Load id (c % 130))
+    (cond (leb k 3900) (cond quiet Tick (Arrive id (packetOf c d))) Tick)
 
-unfoldable pub callAt : ℕ → ℕ → ℕ → ℕ → Call
-callAt k b c d =
+unfoldable pub callAt : Bool → ℕ → ℕ → ℕ → ℕ → Call
+callAt quiet k b c d =
     cond (eqb k 0) (Open (b % 1026) (c % 3) (d % 6 * 316840187))
     (cond (leb k 160) (Join (idOf b) (kindFrom c) (rateOf d) (burstOf (kindFrom c) d))
     (cond (leb k 240) (Change (idOf b) (kindFrom c) (rateOf d) (burstOf (kindFrom c) d))
-    (cond (leb k 260) (Leave (idOf b)) (trafficAt k (idOf b) c d))))
+    (cond (leb k 260) (Leave (idOf b)) (trafficAt quiet k (idOf b) c d))))
 
 -- "With k = a mod 4096"
-unfoldable pub callOf : ℕ → ℕ → ℕ → ℕ → Call
-callOf a b c d = callAt (a % 4096) b c d
+abbrev pub kOf : ℕ → ℕ
+kOf a = a % 4096
+
+-- "A call with k = 4095 is the last of its time: a busy time ends with it and a quiet one begins, or the other way round."
+unfoldable pub quietAfter : ℕ → Bool → Bool
+quietAfter k quiet = cond (eqb k 4095) (not quiet) quiet

@@ -13,14 +13,20 @@ use tables::TERMS;
 ghost use mathlib.Core.Path.{_≡_};
 ghost use Rattle.tables.specs.Tables.{tables};
 ghost use Rattle.tables.specs.Invariant.{Valid};
-ghost use Rattle.runs.specs.Calls.{idOf, burstOf, packetOf, trafficAt, callOf};
+ghost use Rattle.runs.specs.Calls.{idOf, burstOf, packetOf, trafficAt, callAt, kOf, quietAfter};
 ghost use Rattle.runs.specs.Check.{mix, checkWith};
 ghost use Rattle.runs.specs.Stands.{Begins, Drawn, Takes, Goes};
+
+// The maker of calls: the generator that it draws from, and whether the time is quiet.
+pub struct Maker {
+    pub generator: Generator,
+    pub quiet: bool,
+}
 
 // How far a long run has come, beside its tables: the core's control, the maker of calls, and the check.
 pub struct Progress {
     pub control: Control,
-    pub maker: Generator,
+    pub maker: Maker,
     pub check: u32,
 }
 
@@ -30,7 +36,7 @@ pub struct Draws {
     pub b: u32,
     pub c: u32,
     pub d: u32,
-    pub maker: Generator,
+    pub maker: Maker,
 }
 
 // What a call gives: how far the run has come with it, and its answer.
@@ -66,8 +72,8 @@ pub fn packet_of(c: u32, d: u32) -> Packet
 }
 
 // A load, an arrival or a tick.
-fn traffic_of(k: u32, id: u32, c: u32, d: u32) -> Call
-    ensures { λ r. ⌜ r ≡ trafficAt k id c d ⌝ }
+fn traffic_of(quiet: bool, k: u32, id: u32, c: u32, d: u32) -> Call
+    ensures { λ r. ⌜ r ≡ trafficAt quiet k id c d ⌝ }
 {
     if k <= 516 {
         return Call::Load {
@@ -75,34 +81,51 @@ fn traffic_of(k: u32, id: u32, c: u32, d: u32) -> Call
             dummies: c % 130,
         };
     }
-    if k <= 3395 {
+    if k <= 3900 && !quiet {
         let packet = packet_of(c, d);
         return Call::Arrive { id, packet };
     }
     Call::Tick
 }
 
-pub fn draw(maker: Generator) -> Draws
-    ensures { λ r. ⌜ Drawn (maker .value) r ⌝ }
+// The k of a call, from its first draw.
+fn k_of(a: u32) -> u32
+    ensures { λ r. ⌜ r ≡ kOf a ⌝ }
 {
-    let a = maker.step();
+    a % 4096
+}
+
+// Whether the time is quiet after a call.
+fn quiet_after(k: u32, quiet: bool) -> bool
+    ensures { λ r. ⌜ r ≡ quietAfter k quiet ⌝ }
+{
+    if k == 4095 { !quiet } else { quiet }
+}
+
+pub fn draw(maker: Maker) -> Draws
+    ensures { λ r. ⌜ Drawn maker r ⌝ }
+{
+    let a = maker.generator.step();
     let b = a.step();
     let c = b.step();
     let d = c.step();
+    let next = Maker {
+        generator: d,
+        quiet: quiet_after(k_of(a.value), maker.quiet),
+    };
     Draws {
         a: a.value,
         b: b.value,
         c: c.value,
         d: d.value,
-        maker: d,
+        maker: next,
     }
 }
 
-// The call that four draws make.
-pub fn call_of(a: u32, b: u32, c: u32, d: u32) -> Call
-    ensures { λ r. ⌜ r ≡ callOf a b c d ⌝ }
+// The call of the table at k, in a busy time or in a quiet one.
+pub fn call_of(quiet: bool, k: u32, b: u32, c: u32, d: u32) -> Call
+    ensures { λ r. ⌜ r ≡ callAt quiet k b c d ⌝ }
 {
-    let k = a % 4096;
     if k == 0 {
         let seed = d % 6 * 316840187;
         return Call::Open {
@@ -134,7 +157,7 @@ pub fn call_of(a: u32, b: u32, c: u32, d: u32) -> Call
     if k <= 260 {
         return Call::Leave { id };
     }
-    traffic_of(k, id, c, d)
+    traffic_of(quiet, k, id, c, d)
 }
 
 fn mix(h: u32, w: u32) -> u32
@@ -178,9 +201,13 @@ fn check(h: u32, answer: Answer) -> u32
 pub fn begin(seed: u32) -> Progress
     ensures { λ r. ⌜ Begins seed r ⌝ }
 {
+    let maker = Maker {
+        generator: Generator::new(seed),
+        quiet: false,
+    };
     Progress {
         control: opening::unopened(),
-        maker: Generator::new(seed),
+        maker,
         check: 0,
     }
 }
@@ -193,7 +220,7 @@ pub fn take(
     handles: &mut [u32; STORE],
     lengths: &mut [u32; STORE],
     links: &mut [u32; LINKS],
-    maker: Generator,
+    maker: Maker,
     call: Call,
 ) -> Taken
     requires { ⌜ Valid (progress .control) (tables (now terms) (now stocks) (now handles) (now lengths) (now links)) ⌝ }
@@ -238,7 +265,8 @@ fn call_once(
         (tables (now (terms .exit)) (now (stocks .exit)) (now (handles .exit)) (now (lengths .exit)) (now (links .exit))) ⌝ }
 {
     let draws = draw(progress.maker);
-    let call = call_of(draws.a, draws.b, draws.c, draws.d);
+    let quiet = progress.maker.quiet;
+    let call = call_of(quiet, k_of(draws.a), draws.b, draws.c, draws.d);
     let maker = draws.maker;
     let taken = take(
         progress,

@@ -1,23 +1,20 @@
 -- `greedy::call_in` meets its contract: the phase says which row of the table holds. Assumes nothing.
+use mathlib.Core.Logic.{⊎-elim, inl, inr}
 use borrow.Author.Needs.{needs}
 use borrow.Author.Tests.{ne-eqb}
-use Prim.Native.Nat.{_+_, _%_}
-use mathlib.Core.Path.{_≡_}
-use native.Mathlib.Omega.{arith}
 use Rattle.definitions.specs.Sizes.{shares, indifferentKind}
-use Rattle.runs.specs.Calls.{callOf}
 use Rattle.greedy.specs.Phases.{callIn}
 use Rattle.greedy.proofs.call_in.Statement.{statement}
 use Rattle.greedy.proofs.call_in.Tie as tie
 
-packet-of-requires : tie.Need-packet-of-requires
-packet-of-requires c κs = search needs
-
 rate-from-requires : tie.Need-rate-from-requires
 rate-from-requires c κs = search needs
 
-add-t11 : tie.Need-add-t11
-add-t11 c = search needs
+add-t10 : tie.Need-add-t10
+add-t10 c = search needs
+
+packet-of-requires : tie.Need-packet-of-requires
+packet-of-requires c κs = search needs
 
 add-call-of : tie.Need-add-call-of
 add-call-of c = search needs
@@ -35,34 +32,22 @@ returns-2 c = rw (c .rate-from .ensures, c .before .match .keys2)
 
 returns-3 : tie.Need-returns-3
 unfolding callIn
-returns-3 c = rw (c .before .packet-of .ensures, c .match .keys3)
+returns-3 c = ⊎-elim (λ e. rw e) (λ e. rw e) (c .match .keys3)
 
 returns-4 : tie.Need-returns-4
 unfolding callIn
-returns-4 c = rw (c .match .keys4)
+returns-4 c = rw (c .packet-of .ensures, c .before .match .keys4)
 
 returns-5 : tie.Need-returns-5
 unfolding callIn
-returns-5 c = rw (c .before .packet-of .ensures, c .match .keys5)
-
-returns-6 : tie.Need-returns-6
-unfolding callIn
-returns-6 c = rw (c .match .keys6)
-
-returns-7 : tie.Need-returns-7
-unfolding callIn callOf
-returns-7 c =
+returns-5 c =
     let not = c .before .match .rest in
-    let a = c .before .before .before .args .a in
-    let small : (1 + a % 3395) % 4096 ≡ 1 + a % 3395 = omega arith in
     rw (
       c .call-of .ensures,
-      small,
-      ne-eqb _ _ (not .0 .0 .0 .0 .0 .1),
-      ne-eqb _ _ (not .0 .0 .0 .0 .1),
       ne-eqb _ _ (not .0 .0 .0 .1),
-      ne-eqb _ _ (not .0 .1),
       ne-eqb _ _ (not .0 .0 .1),
+      ne-eqb _ _ (λ e. not .0 .1 (inl e)),
+      ne-eqb _ _ (λ e. not .0 .1 (inr e)),
       ne-eqb _ _ (not .1),
     )
 
@@ -70,15 +55,13 @@ pub call-in-spec : {M : Type 1} → statement M
 call-in-spec =
     tie.close
     (tie.spec
-    packet-of-requires
     rate-from-requires
-    add-t11
+    add-t10
+    packet-of-requires
     add-call-of
     call-of-requires
     returns
     returns-2
     returns-3
     returns-4
-    returns-5
-    returns-6
-    returns-7)
+    returns-5)

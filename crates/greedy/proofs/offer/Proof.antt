@@ -13,9 +13,6 @@ rise-requires c κs = search needs
 enum-known-answer : tie.Need-enum-known-answer
 enum-known-answer c = search needs
 
-end-requires : tie.Need-end-requires
-end-requires c κs = search needs
-
 refuse-requires : tie.Need-refuse-requires
 refuse-requires c κs = search needs
 
@@ -28,7 +25,7 @@ returns c = rw (c .before .enum-told .given .1, c .rise .ensures)
 
 returns-2 : tie.Need-returns-2
 unfolding offered
-returns-2 c = rw (c .before .before .before .answer .given .1, c .refuse .ensures, c .before .end .ensures)
+returns-2 c = rw (c .before .before .answer .given .1) (c .refuse .ensures)
 
 returns-3 : tie.Need-returns-3
 unfolding offered
@@ -37,13 +34,4 @@ returns-3 c = rw (c .enum-told2 .given .1)
 pub offer-spec : {M : Type 1} → statement M
 offer-spec =
     tie.close
-    (tie.spec
-    enum-told
-    rise-requires
-    enum-known-answer
-    end-requires
-    refuse-requires
-    enum-told-2
-    returns
-    returns-2
-    returns-3)
+    (tie.spec enum-told rise-requires enum-known-answer refuse-requires enum-told-2 returns returns-2 returns-3)

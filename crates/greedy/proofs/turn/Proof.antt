@@ -11,9 +11,6 @@ rise-requires c κs = search needs
 join-requires : tie.Need-join-requires
 join-requires c κs = search needs
 
-drain-requires : tie.Need-drain-requires
-drain-requires c κs = search needs
-
 pause-requires : tie.Need-pause-requires
 pause-requires c κs = search needs
 
@@ -29,27 +26,22 @@ returns c = rw (c .join .ensures, c .before .match .keys1)
 
 returns-2 : tie.Need-returns-2
 unfolding turned
-returns-2 c = rw (c .drain .ensures, c .before .match .keys2)
+returns-2 c = rw (c .pause .ensures, c .before .match .keys2)
 
 returns-3 : tie.Need-returns-3
 unfolding turned
-returns-3 c = rw (c .pause .ensures, c .before .match .keys3)
+returns-3 c = rw (c .offer .ensures, c .before .match .keys3)
 
 returns-4 : tie.Need-returns-4
 unfolding turned
-returns-4 c = rw (c .offer .ensures, c .before .match .keys4)
+returns-4 c = rw (c .tick .ensures, c .before .match .keys4)
 
 returns-5 : tie.Need-returns-5
 unfolding turned
-returns-5 c = rw (c .tick .ensures, c .before .match .keys5)
-
-returns-6 : tie.Need-returns-6
-unfolding turned
-returns-6 c =
+returns-5 c =
     let not = c .match .rest in
     rw (
       c .before .rise .ensures,
-      ne-eqb _ _ (not .0 .0 .0 .0 .1),
       ne-eqb _ _ (not .0 .0 .0 .1),
       ne-eqb _ _ (not .0 .0 .1),
       ne-eqb _ _ (not .0 .1),
@@ -62,7 +54,6 @@ turn-spec =
     (tie.spec
     rise-requires
     join-requires
-    drain-requires
     pause-requires
     offer-requires
     tick-requires
@@ -70,5 +61,4 @@ turn-spec =
     returns-2
     returns-3
     returns-4
-    returns-5
-    returns-6)
+    returns-5)

@@ -16,16 +16,16 @@ begin-requires-2 c κs = search needs
 calls-requires : tie.Need-calls-requires
 calls-requires c κs = c .before .before .before .before .before .begin2 .ensures .valid _
 
-new-requires : tie.Need-new-requires
-new-requires c κs = search needs
+begin-requires-3 : tie.Need-begin-requires-3
+begin-requires-3 c κs = search needs
 
 returns-2 : tie.Need-returns-2
 returns-2 c =
     let made = c .before .before in
     let begun = made .before .before .before .before .before .before in
-    starts-behind (begun .before .if1 .left) (begun .begin2 .ensures) (made .calls .ensures) (c .new .ensures)
+    starts-behind (begun .before .if1 .left) (begun .begin2 .ensures) (made .calls .ensures) (c .begin3 .ensures)
 
 pub start-spec : {M : Type 1} → statement M
 start-spec =
     tie.close
-    (tie.spec begin-requires returns begin-requires-2 calls-requires new-requires returns-2)
+    (tie.spec begin-requires returns begin-requires-2 calls-requires begin-requires-3 returns-2)

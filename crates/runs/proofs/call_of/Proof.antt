@@ -1,7 +1,7 @@
 -- `runs::call_of` meets its contract: at each return the tests that led there say which row of the table holds. Assumes nothing.
 use borrow.Author.Needs.{needs}
 use borrow.Author.Tests.{eq-eqb, ne-eqb, le-leb, lt-leb}
-use Rattle.runs.specs.Calls.{callAt, callOf}
+use Rattle.runs.specs.Calls.{callAt}
 use Rattle.runs.proofs.call_of.Statement.{statement}
 use Rattle.runs.proofs.call_of.Tie as tie
 
@@ -9,7 +9,7 @@ mul-seed : tie.Need-mul-seed
 mul-seed c = search needs
 
 returns : tie.Need-returns
-unfolding callOf callAt
+unfolding callAt
 returns c = rw (eq-eqb _ _ (c .if1 .taken))
 
 id-of-requires : tie.Need-id-of-requires
@@ -19,7 +19,7 @@ burst-of-requires : tie.Need-burst-of-requires
 burst-of-requires c κs = search needs
 
 returns-2 : tie.Need-returns-2
-unfolding callOf callAt
+unfolding callAt
 returns-2 c =
     let b = c .before in
     rw (
@@ -30,7 +30,7 @@ returns-2 c =
     )
 
 returns-3 : tie.Need-returns-3
-unfolding callOf callAt
+unfolding callAt
 returns-3 c =
     let b = c .before .before in
     rw (
@@ -42,7 +42,7 @@ returns-3 c =
     )
 
 returns-4 : tie.Need-returns-4
-unfolding callOf callAt
+unfolding callAt
 returns-4 c =
     let b = c .before .before .before in
     rw (
@@ -57,7 +57,7 @@ traffic-of-requires : tie.Need-traffic-of-requires
 traffic-of-requires c κs = search needs
 
 returns-5 : tie.Need-returns-5
-unfolding callOf callAt
+unfolding callAt
 returns-5 c =
     let b = c .before .before .before .before in
     rw (

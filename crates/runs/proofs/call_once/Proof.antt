@@ -7,6 +7,9 @@ use Rattle.runs.proofs.call_once.Tie as tie
 draw-requires : tie.Need-draw-requires
 draw-requires c κs = search needs
 
+k-of-requires : tie.Need-k-of-requires
+k-of-requires c κs = search needs
+
 call-of-requires : tie.Need-call-of-requires
 call-of-requires c κs = search needs
 
@@ -16,7 +19,9 @@ take-requires c κs = search needs
 returns : tie.Need-returns
 returns c =
     let made = c .before .before .before .before .before .before .before .before in
-    goes-once _ _ (made .before .draw .ensures) (made .call-of .ensures) (c .before .take .ensures)
+    let call = rw (made .before .k-of .ensures) at (made .call-of .ensures) in
+    goes-once _ _ (made .before .before .draw .ensures) call (c .before .take .ensures)
 
 pub call-once-spec : {M : Type 1} → statement M
-call-once-spec = tie.close (tie.spec draw-requires call-of-requires take-requires returns)
+call-once-spec =
+    tie.close (tie.spec draw-requires k-of-requires call-of-requires take-requires returns)
