@@ -63,10 +63,11 @@ fn agrees(who: &str, printed: &[u8], case: &Case) -> bool {
     if printed == case.expected {
         return true;
     }
-    let (is, should) = (program::shown(printed), program::shown(&case.expected));
-    let (is, should): (Vec<&str>, Vec<&str>) = (is.lines().collect(), should.lines().collect());
+    let lines = |text: &[u8]| -> Vec<String> { text.split_inclusive(|&byte| byte == b'\n').map(program::shown).collect() };
+    let (is, should) = (lines(printed), lines(&case.expected));
     let at = (0..is.len().max(should.len())).find(|&i| is.get(i) != should.get(i)).unwrap_or(0);
-    println!("failed: {}: line {} of {} is {:?}, not {:?}", case.name, at + 1, who, is.get(at), should.get(at));
+    let line = |of: &[String]| of.get(at).map(|line| line.trim_end().to_string());
+    println!("failed: {}: line {} of {} is {:?}, not {:?}", case.name, at + 1, who, line(&is), line(&should));
     false
 }
 
