@@ -4,21 +4,24 @@
 use second::core::{Answer, Call, Core, Outcome, INDIFFERENT};
 use second::script::{parse, Line};
 use tests::arguments::Arguments;
+use tests::buckets::Buckets;
 use tests::difference::{expected, report};
 use tests::program::run;
 use tests::scripts;
 
-/// How often each number and each outcome came up, to show that the run was not idle.
+/// How often each number and each outcome came up, and what was met at buckets and queues, to show
+/// that the run was not idle.
 struct Tally {
     numbers: [u64; 20],
     outcomes: [u64; 5],
+    buckets: Buckets,
     lines: u64,
     bytes: u64,
 }
 
 const OUTCOMES: [&str; 5] = ["real of indifferent", "real of private", "dummy", "idle", "none"];
 
-/// A run of this many scripts must have met every number and outcome that a script can reach.
+/// A run of this many scripts must have met everything that is counted and that a script can reach.
 const ENOUGH: u64 = 1000;
 
 /// "type not 1 or 2": no form of the grammar can carry such a type.
@@ -48,7 +51,7 @@ impl Tally {
     }
 
     fn add_call(&mut self, core: &mut Core, call: &Call) {
-        match core.perform(call) {
+        match self.buckets.perform(core, call) {
             Answer::Accepted => {}
             Answer::Refused(number) => self.numbers[number as usize] += 1,
             Answer::Slot(outcome) => {
@@ -75,7 +78,7 @@ impl Tally {
             println!("{}: {}", OUTCOMES[place], self.outcomes[place]);
             complete &= self.outcomes[place] > 0;
         }
-        complete
+        self.buckets.print() && complete
     }
 }
 
@@ -88,7 +91,8 @@ fn is_indifferent(core: &Core, id: u32) -> bool {
 fn main() {
     let arguments = Arguments::read("compare SLOTS FIRST_SEED COUNT");
     let program = &arguments.program;
-    let mut tally = Tally { numbers: [0; 20], outcomes: [0; 5], lines: 0, bytes: 0 };
+    let mut tally =
+        Tally { numbers: [0; 20], outcomes: [0; 5], buckets: Buckets::new(), lines: 0, bytes: 0 };
     for seed in arguments.seeds() {
         let text = scripts::script(seed);
         let wanted = expected(second::script::run, &text);
@@ -105,7 +109,7 @@ fn main() {
         arguments.count, tally.lines, tally.bytes
     );
     if arguments.count >= ENOUGH && !complete {
-        println!("but not every number and outcome came up");
+        println!("but not everything that is counted came up");
         std::process::exit(1);
     }
 }

@@ -1,6 +1,7 @@
 //! What the test programs share.
 
 pub mod arguments;
+pub mod buckets;
 pub mod demands;
 pub mod difference;
 pub mod history;

@@ -1,6 +1,7 @@
 //! Scripts from a 64-bit seed. Several families, each after a part of the paper that a program may
 //! get wrong. The second core follows what is written, so that calls can aim at limits that
-//! depend on the state (room left under the threshold, pool, queue, level).
+//! depend on the state (room left under the threshold, pool, queue, level). A bucket begins empty
+//! (paper 02, S-4), so what needs tokens has ticks before it.
 
 use crate::lines::{big_number, line_of, near_miss, odd_byte};
 use crate::random::Random;
@@ -8,8 +9,13 @@ use crate::seeds::high_seed;
 use second::core::{Call, Client, Core, INDIFFERENT, PRIVATE};
 use second::script::{parse, Line};
 
+pub mod switches;
+
 /// The largest text that is read.
 const LIMIT: usize = 60_000;
+
+/// How many ticks a script spends on one bucket at most, so that there is room for other lines.
+const PATIENCE: u32 = 120;
 
 /// The script of a seed. One in sixteen has a size at or past the limit, the others are small.
 pub fn script(seed: u64) -> Vec<u8> {
@@ -72,6 +78,16 @@ impl Writer {
         if ids.is_empty() { self.random.between(0, 63) } else { self.random.pick(&ids) }
     }
 
+    /// An indifferent client, mostly one whose next packet would be granted.
+    fn one_with_token(&mut self) -> u32 {
+        let mut ids = self.active(INDIFFERENT);
+        ids.retain(|&id| self.client(id).is_some_and(|client| client.level >= 1024));
+        if ids.is_empty() || self.random.one_in(4) {
+            return self.one_of(INDIFFERENT);
+        }
+        self.random.pick(&ids)
+    }
+
     fn one_active(&mut self) -> u32 {
         let kind = self.random.between(INDIFFERENT, PRIVATE);
         self.one_of(kind)
@@ -120,6 +136,7 @@ impl Writer {
             1 => room,
             2 => room + 1,
             3 => self.random.between(1, 1024),
+            4 | 5 => self.random.between(40, 300),
             _ => self.random.between(1, 40),
         };
         if kind == PRIVATE {
@@ -238,18 +255,49 @@ impl Writer {
         }
     }
 
+    /// Ticks in which nobody offers anything, so that buckets fill.
+    fn rest(&mut self) {
+        let most = self.random.pick(&[10, 40, PATIENCE]);
+        let count = self.random.between(1, most);
+        self.ticks(count);
+    }
+
+    /// Ticks till the bucket of `id` has so many tokens, or is full.
+    fn fill(&mut self, id: u32, tokens: u32) {
+        let Some(client) = self.client(id) else {
+            return;
+        };
+        let missing = (tokens.min(client.burst) * 1024).saturating_sub(client.level);
+        let count = missing.div_ceil(client.rate);
+        self.ticks(count.min(PATIENCE));
+    }
+
+    /// The same in few ticks, at the highest rate that there is room for; then the rate is low again.
+    fn fill_fast(&mut self, id: u32, tokens: u32) {
+        let (kind, fast) = (INDIFFERENT, self.room(id));
+        let Some(burst) = self.client(id).filter(|it| it.kind == kind).map(|it| it.burst) else {
+            return;
+        };
+        self.call(Call::Change { id, kind, rate: fast, burst });
+        self.fill(id, tokens);
+        let (slow, brisk) = (self.random.between(1, 8), self.random.between(1, 200));
+        let rate = self.random.pick(&[slow, slow, slow, brisk]);
+        self.call(Call::Change { id, kind, rate, burst });
+    }
+
     /// A join, change or leave that keeps most of what goes on.
     fn small_change(&mut self) {
         let id = self.one_active();
         let Some(client) = self.client(id) else {
             return self.join(INDIFFERENT, 100, (1, 64));
         };
-        let kind = client.kind;
+        let &Client { kind, rate: own_rate, burst: own_burst, .. } = client;
         let burst = if kind == PRIVATE { 0 } else { self.random.between(1, 64) };
         let rate = self.random.between(1, 200);
-        match self.random.below(4) {
+        match self.random.below(5) {
             0 => self.call(Call::Leave { id }),
             1 => self.join(kind, 100, (1, 64)),
+            2 => self.call(Call::Change { id, kind, rate: own_rate, burst: own_burst }),
             _ => self.call(Call::Change { id, kind, rate, burst }),
         }
     }
@@ -258,15 +306,18 @@ impl Writer {
 /// The families. Each writes at least `size` bytes.
 impl Writer {
     fn family(&mut self, size: usize) {
-        match self.random.below(13) {
+        match self.random.below(19) {
             0 | 1 => self.edges(size),
-            2 => self.indifferent_traffic(size, 0),
-            3 => self.indifferent_traffic(size, 1),
-            4 | 5 => self.private_traffic(size),
-            6 | 7 => self.full_queues(size),
-            8 => self.settings(size),
-            9 => self.bucket_edges(size),
-            10 | 11 => self.near_misses(size),
+            2 | 3 => self.indifferent_traffic(size, 0),
+            4 | 5 => self.indifferent_traffic(size, 1),
+            6 | 7 => self.private_traffic(size),
+            8..=10 => self.full_queues(size),
+            11 => self.settings(size),
+            12 | 13 => self.bucket_edges(size),
+            14 | 15 => self.near_misses(size),
+            16 | 17 => {
+                self.switching(size);
+            }
             _ => self.stray_bytes(size),
         }
     }
@@ -277,26 +328,32 @@ impl Writer {
             self.open_any();
         }
         while self.text.len() < size {
+            if self.random.one_in(30) {
+                self.rest();
+            }
             let unopened = self.core.opened.is_none() && self.random.one_in(3);
             let call = if unopened { self.edge_open() } else { self.edge_call() };
             self.call(call);
         }
     }
 
-    /// Many packets of many indifferent clients: order, draws and drops under one discipline.
+    /// Many packets of many indifferent clients, by turns with rests: order, draws and drops under
+    /// one discipline.
     fn indifferent_traffic(&mut self, size: usize, discipline: u32) {
         self.open(discipline);
         self.company(INDIFFERENT, size);
         if self.random.one_in(2) {
             self.joins(PRIVATE, 1);
         }
-        // Above 10 the queues grow, below it they run empty.
+        self.rest();
+        // Above 10 the queues grow till the tokens end, below it they run empty.
         let arrivals = self.random.between(7, 15) as usize;
         while self.text.len() < size {
             match self.random.below(20) {
                 19 if self.random.one_in(3) => self.small_change(),
+                18 if self.random.one_in(3) => self.rest(),
                 place if place < arrivals => {
-                    let id = self.one_of(INDIFFERENT);
+                    let id = self.one_with_token();
                     self.arrives(id, 1);
                 }
                 _ => self.ticks(1),
@@ -339,12 +396,13 @@ impl Writer {
         }
     }
 
-    /// Queues filled past 32 while the bucket still has tokens, then emptied and refilled one by
-    /// one till the tokens end: a token taken for a 14 brings the first 15 too early. Without
-    /// indifferent clients, the private queues fill and the draws go on.
+    /// Buckets filled, and then queues past 32 while the bucket still has tokens, then emptied and
+    /// refilled one by one till the tokens end: a token taken for a 14 brings the first 15 too early.
+    /// Without indifferent clients, the private queues fill and the draws go on.
     fn full_queues(&mut self, size: usize) {
-        const KINDS: [[u32; 3]; 4] = [
+        const KINDS: [[u32; 3]; 5] = [
             [INDIFFERENT, INDIFFERENT, INDIFFERENT],
+            [INDIFFERENT, INDIFFERENT, PRIVATE],
             [INDIFFERENT, INDIFFERENT, PRIVATE],
             [INDIFFERENT, PRIVATE, PRIVATE],
             [PRIVATE, PRIVATE, PRIVATE],
@@ -360,6 +418,11 @@ impl Writer {
         while self.text.len() < size {
             let kind = self.random.pick(&kinds);
             let id = self.one_of(kind);
+            let tokens = self.random.pick(&[32, 33, 36, 64, 64]);
+            self.fill_fast(id, tokens);
+            // One store for all would be full earlier.
+            let neighbour = self.one_active();
+            self.arrives(neighbour, 2);
             let past = self.random.between(31, 38);
             self.arrives(id, past);
             let rounds = self.random.between(1, 40);
@@ -383,6 +446,8 @@ impl Writer {
         while self.text.len() < size {
             let id = self.random.pick(&ids);
             let (kind, rate, burst) = self.edge_terms(id);
+            let brisk = self.random.between(100, 300);
+            let rate = if self.random.one_in(2) { brisk } else { rate };
             let active = self.client(id).is_some();
             match self.random.below(16) {
                 0 if self.random.one_in(2) => self.open_any(),
@@ -396,6 +461,10 @@ impl Writer {
                 7..=11 => {
                     let count = self.random.between(1, 4);
                     self.arrives(id, count);
+                }
+                12 | 13 => {
+                    let tokens = self.random.between(1, 4);
+                    self.fill(id, tokens);
                 }
                 _ => self.ticks(1),
             }
@@ -441,13 +510,17 @@ impl Writer {
         self.arrives(id, 2);
     }
 
-    /// A change to a large burst and ticks, then to a small burst and more arrivals than it allows.
+    /// A change to a large burst and ticks till it has more than a small one holds, then a change to
+    /// the small one, at the old rate, and more arrivals than it allows.
     fn lower_burst(&mut self, id: u32) {
-        let (kind, rate) = (INDIFFERENT, self.random.between(1, 341));
+        let Some(rate) = self.client(id).map(|client| client.rate) else {
+            return;
+        };
+        let (kind, burst) = (INDIFFERENT, self.random.between(1, 3));
+        let fast = self.random.between(100, 341).min(self.room(id));
         let large = self.random.between(4, 64);
-        self.call(Call::Change { id, kind, rate, burst: large });
-        self.ticks(10);
-        let burst = self.random.between(1, 3);
+        self.call(Call::Change { id, kind, rate: fast, burst: large });
+        self.fill(id, burst + 2);
         self.call(Call::Change { id, kind, rate, burst });
         self.arrives(id, burst + 1);
     }

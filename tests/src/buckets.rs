@@ -1,0 +1,103 @@
+//! What scripts met at buckets and queues: drops by the type of the client, levels right at the limit, and packets behind each
+//! way in which a bucket begins or goes on (paper 02, S-4). It goes along with a core, call by call.
+
+use second::core::{Answer, Call, Core, INDIFFERENT};
+
+const KINDS: [&str; 11] = [
+    "14 of a private client",
+    "14 of an indifferent client",
+    "of these, with a token left",
+    "15 with one share less than a token",
+    "accepted with just one token",
+    "accepted by an indifferent client that joined as such",
+    "15 of such a client",
+    "accepted after a change to indifferent",
+    "15 after a change to indifferent",
+    "accepted behind a change that kept the type, with no tick between",
+    "levels cut down by a smaller burst",
+];
+
+pub struct Buckets {
+    counts: [u64; KINDS.len()],
+    /// By id: whether a change of type began its bucket.
+    switched: [bool; 64],
+    /// By id: whether a change that kept the type came behind the last tick.
+    retuned: [bool; 64],
+}
+
+/// What is looked at before a call.
+struct Bucket {
+    id: usize,
+    indifferent: bool,
+    level: u32,
+}
+
+impl Buckets {
+    pub fn new() -> Buckets {
+        Buckets { counts: [0; KINDS.len()], switched: [false; 64], retuned: [false; 64] }
+    }
+
+    /// Makes a call and counts what it met.
+    pub fn perform(&mut self, core: &mut Core, call: &Call) -> Answer {
+        let bucket = bucket_of(core, call);
+        let answer = core.perform(call);
+        match (call, bucket, &answer) {
+            (Call::Arrive { .. }, Some(bucket), answer) => self.arrived(&bucket, answer),
+            (&Call::Change { kind, burst, .. }, Some(bucket), Answer::Accepted) => {
+                self.changed(&bucket, kind == INDIFFERENT, burst);
+            }
+            (&Call::Join { id, .. }, _, Answer::Accepted) => {
+                (self.switched[id as usize], self.retuned[id as usize]) = (false, false);
+            }
+            (Call::Tick, _, _) => self.retuned = [false; 64],
+            _ => {}
+        }
+        answer
+    }
+
+    fn arrived(&mut self, bucket: &Bucket, answer: &Answer) {
+        let &Bucket { id, indifferent, level } = bucket;
+        let (full, short) = (*answer == Answer::Refused(14), *answer == Answer::Refused(15));
+        let granted = indifferent && *answer == Answer::Accepted;
+        let met = [
+            full && !indifferent,
+            full && indifferent,
+            full && indifferent && level >= 1024,
+            short && level == 1023,
+            granted && level == 1024,
+            granted && !self.switched[id],
+            short && !self.switched[id],
+            granted && self.switched[id],
+            short && self.switched[id],
+            granted && self.retuned[id],
+        ];
+        for (count, met) in self.counts.iter_mut().zip(met) {
+            *count += u64::from(met);
+        }
+    }
+
+    fn changed(&mut self, before: &Bucket, indifferent: bool, burst: u32) {
+        let id = before.id;
+        self.retuned[id] = before.indifferent == indifferent;
+        self.switched[id] = if self.retuned[id] { self.switched[id] } else { indifferent };
+        self.counts[10] += u64::from(self.retuned[id] && before.level > burst * 1024);
+    }
+
+    /// Prints the counts; false if one is 0.
+    pub fn print(&self) -> bool {
+        for (name, count) in KINDS.iter().zip(&self.counts) {
+            println!("{}: {}", name, count);
+        }
+        self.counts.iter().all(|&count| count > 0)
+    }
+}
+
+/// The bucket of the client that an arrival or a change names, if it is active.
+fn bucket_of(core: &Core, call: &Call) -> Option<Bucket> {
+    let (Call::Arrive { id, .. } | Call::Change { id, .. }) = *call else {
+        return None;
+    };
+    let client = core.opened.as_ref()?.clients.get(id as usize)?.as_ref()?;
+    let indifferent = client.kind == INDIFFERENT;
+    Some(Bucket { id: id as usize, indifferent, level: client.level })
+}
