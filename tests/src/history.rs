@@ -4,13 +4,14 @@
 use crate::program::Run;
 use second::core::{Answer, Call, Core, Outcome, INDIFFERENT};
 use second::script::{parse, print, Line};
+use std::rc::Rc;
 
 /// One kept call with what the settings calls say of its place.
 struct Kept {
     call: Call,
     /// Which line of the script it is; "Each line prints one line".
     line: usize,
-    settings: Core,
+    settings: Rc<Core>,
 }
 
 pub struct History {
@@ -26,7 +27,7 @@ impl History {
     /// or 17 is no call.
     pub fn of(text: &[u8], chosen: u32) -> History {
         let mut history = History { chosen, kept: Vec::new(), lines: 0, struck_out: 0 };
-        let mut settings = Core::new();
+        let mut settings = Rc::new(Core::new());
         for line in text.split_inclusive(|&byte| byte == b'\n') {
             let parsed = line.strip_suffix(b"\n").map(parse);
             if let Some(Line::Form(call)) = parsed {
@@ -37,7 +38,7 @@ impl History {
         history
     }
 
-    fn add(&mut self, call: Call, settings: &mut Core) {
+    fn add(&mut self, call: Call, settings: &mut Rc<Core>) {
         if let Call::Arrive { id, .. } | Call::Load { id, .. } = call {
             if id != self.chosen && !is_indifferent(settings, id) {
                 self.struck_out += 1;
@@ -50,7 +51,7 @@ impl History {
         match call {
             Call::Arrive { .. } | Call::Load { .. } | Call::Tick => {}
             _ => {
-                settings.perform(&call);
+                Rc::make_mut(settings).perform(&call);
             }
         }
     }
@@ -80,13 +81,15 @@ pub struct Seen {
     kinds: [u64; KINDS.len()],
 }
 
-const KINDS: [&str; 12] = [
+const KINDS: [&str; 14] = [
     "answers to opens",
     "answers to joins, changes and leaves",
+    "of these, accepted changes of type",
     "accepted arrives and loads of the chosen client",
     "refused arrives and loads of the chosen client",
-    "accepted arrives of indifferent clients",
-    "drops (14 or 15) of indifferent clients",
+    "accepted arrives of other indifferent clients",
+    "drops of indifferent clients, 14",
+    "drops of indifferent clients, 15",
     "departures under rule 1",
     "slots of the chosen client under rule 2",
     "picks of another client under rule 2",
@@ -108,34 +111,42 @@ impl Seen {
         self.kinds.iter().all(|&count| count > 0)
     }
 
-    fn add_call(&mut self, chosen: u32, call: &Call, answer: &[u8]) {
+    fn add_call(&mut self, chosen: u32, kept: &Kept, answer: &[u8]) {
         let accepted = answer == b"(ok)\n";
-        match *call {
+        match kept.call {
             Call::Open { .. } => self.kinds[0] += 1,
             Call::Arrive { id, .. } | Call::Load { id, .. } if id == chosen => {
-                self.kinds[if accepted { 2 } else { 3 }] += 1;
+                self.kinds[if accepted { 3 } else { 4 }] += 1;
             }
-            Call::Arrive { .. } if accepted => self.kinds[4] += 1,
-            Call::Arrive { .. } if answer == b"(refused 14)\n" || answer == b"(refused 15)\n" => {
-                self.kinds[5] += 1;
-            }
-            Call::Arrive { .. } | Call::Load { .. } | Call::Tick => {}
+            Call::Arrive { .. } => self.kinds[5] += u64::from(accepted),
+            Call::Load { .. } | Call::Tick => {}
             _ => self.kinds[1] += 1,
+        }
+        match kept.call {
+            Call::Change { id, kind, .. } => {
+                let other = kind_of(&kept.settings, id) != Some(kind);
+                self.kinds[2] += u64::from(accepted && other);
+            }
+            Call::Arrive { id, .. } if is_indifferent(&kept.settings, id) => {
+                self.kinds[6] += u64::from(answer == b"(refused 14)\n");
+                self.kinds[7] += u64::from(answer == b"(refused 15)\n");
+            }
+            _ => {}
         }
     }
 
     fn add_slot(&mut self, chosen: u32, settings: &Core, outcome: &Outcome, same: bool) {
         let Some(id) = id_of(outcome) else {
-            self.kinds[10] += 1;
+            self.kinds[12] += 1;
             return;
         };
         if is_indifferent(settings, id) {
-            self.kinds[6] += 1;
-        } else if id == chosen {
-            self.kinds[7] += 1;
-        } else {
             self.kinds[8] += 1;
-            self.kinds[9] += u64::from(!same);
+        } else if id == chosen {
+            self.kinds[9] += 1;
+        } else {
+            self.kinds[10] += 1;
+            self.kinds[11] += u64::from(!same);
         }
     }
 }
@@ -190,12 +201,12 @@ fn compare_answers(
         // Opens; "the answers to its joins, changes and leaves" of any client; and arrives and
         // loads, which are kept only if they are the chosen client's or if "at whose place it is
         // indifferent": "accepted or the number", its drops (14 or 15) among them.
-        seen.add_call(chosen, &kept.call, one);
+        seen.add_call(chosen, kept, one);
         return if one == other { Ok(()) } else { Err(differ()) };
     }
     if kept.settings.opened.is_none() {
         // "An unopened core's tick has no slot and gets 19 in both."
-        seen.kinds[11] += 1;
+        seen.kinds[13] += 1;
         let right = one == b"(refused 19)\n" && other == b"(refused 19)\n";
         return if right { Ok(()) } else { Err(differ()) };
     }

@@ -4,7 +4,7 @@ use crate::history::{is_indifferent, History};
 use crate::lines::{line_of, near_miss};
 use crate::random::Random;
 use crate::seeds::high_seed;
-use second::core::{Call, Core, INDIFFERENT, PRIVATE};
+use second::core::{Call, Client, Core, INDIFFERENT, PRIVATE};
 use second::script::{parse, Line};
 
 /// Which text a line stands in.
@@ -97,6 +97,9 @@ impl Maker {
             }
             let call = if place < early { self.any_call() } else { self.next_call() };
             self.keep(call);
+            if self.random.one_in(40) {
+                self.rest();
+            }
         }
         // What waits at the end shows only when it is asked for.
         for _ in 0..10 {
@@ -104,6 +107,28 @@ impl Maker {
             let call = self.packet(self.chosen);
             self.keep(call);
         }
+    }
+
+    /// Ticks in which the bucket of a client fills, since it begins empty, and then its packets,
+    /// some more than its tokens or its places.
+    fn rest(&mut self) {
+        let Some(id) = self.one_indifferent() else {
+            return;
+        };
+        let most = self.random.pick(&[10, 40, 150]);
+        for _ in 0..self.ticks_to_fill(id).min(most) {
+            self.keep(Call::Tick);
+        }
+        let tokens = self.client(id).map_or(0, |client| client.level / 1024);
+        for _ in 0..tokens + self.random.between(0, 3) {
+            let call = self.packet(id);
+            self.keep(call);
+        }
+    }
+
+    fn ticks_to_fill(&self, id: u32) -> u32 {
+        let missing = |client: &Client| (client.burst * 1024 - client.level).div_ceil(client.rate);
+        self.client(id).map_or(0, missing)
     }
 
     fn keep(&mut self, call: Call) {
@@ -125,9 +150,18 @@ impl Maker {
         self.lines.push((side, line));
     }
 
+    /// An id that is indifferent at this place.
+    fn one_indifferent(&mut self) -> Option<u32> {
+        let ids: Vec<u32> = (0..64).filter(|&id| is_indifferent(&self.core, id)).collect();
+        if ids.is_empty() { None } else { Some(self.random.pick(&ids)) }
+    }
+
+    fn client(&self, id: u32) -> Option<&Client> {
+        self.core.opened.as_ref()?.clients.get(id as usize)?.as_ref()
+    }
+
     fn kind(&self, id: u32) -> Option<u32> {
-        let clients = &self.core.opened.as_ref()?.clients;
-        Some(clients.get(id as usize)?.as_ref()?.kind)
+        self.client(id).map(|client| client.kind)
     }
 }
 
@@ -174,8 +208,8 @@ impl Maker {
 
     fn terms(&mut self) -> (u32, u32, u32) {
         let kind = self.random.between(INDIFFERENT, PRIVATE);
-        let any = self.random.between(1, 100);
-        let rate = self.random.pick(&[any, any, any, any, 1, 300, 0, 1025]);
+        let (any, brisk) = (self.random.between(1, 100), self.random.between(100, 400));
+        let rate = self.random.pick(&[any, any, any, brisk, brisk, 1, 0, 1025]);
         let any = self.random.between(1, 64);
         let burst = self.random.pick(&[any, any, any, 1, 2, 64, 65]);
         (kind, rate, if kind == PRIVATE { 0 } else { burst })
@@ -208,11 +242,9 @@ impl Maker {
 
     /// An arrival, rarely a load, of an id that is indifferent at this place; else a tick.
     fn indifferent_call(&mut self) -> Call {
-        let ids: Vec<u32> = (0..64).filter(|&id| is_indifferent(&self.core, id)).collect();
-        if ids.is_empty() {
+        let Some(id) = self.one_indifferent() else {
             return Call::Tick;
-        }
-        let id = self.random.pick(&ids);
+        };
         if self.random.one_in(12) { self.load(id) } else { self.packet(id) }
     }
 }

@@ -5,8 +5,9 @@
 //! The faults of refilling only the client picked, and of taking a token for a packet refused
 //! with 14, cannot be seen here, by their nature: which packet of an indifferent client goes out,
 //! its queue and its level are then still functions of the kept calls alone (a private client has
-//! no bucket to refill or to take from, and a change of type gives a full one), so both histories
-//! of a pair go wrong in the same way. The plain remainder is no leak either. `compare` sees them.
+//! no bucket to refill or to take from, and a change of type gives an empty one), so both histories
+//! of a pair go wrong in the same way. So they do with a bucket that begins full, or that a change
+//! which keeps the type empties. The plain remainder is no leak either. `compare` sees them.
 
 use tests::arguments::Arguments;
 use tests::history::{History, Seen};

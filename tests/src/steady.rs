@@ -24,6 +24,9 @@ pub struct Stretch {
 const LONGEST: usize = 60_000;
 const ROOM: usize = 59_000;
 
+/// How many ticks are spent on one bucket at most.
+const LONGEST_FILL: u32 = 150;
+
 impl Stretch {
     pub fn from_seed(seed: u64) -> Stretch {
         let mut maker = Maker { random: Random::new(seed), core: Core::new(), lines: Vec::new(),
@@ -178,6 +181,9 @@ impl Maker {
         if self.random.one_in(3) {
             self.unrest();
         }
+        for _ in 0..self.random.pick(&[0, 2, 4, 8]) {
+            self.fill();
+        }
         self.traffic();
     }
 
@@ -230,6 +236,24 @@ impl Maker {
                 _ => self.call(&Call::Change { id, kind, rate, burst }),
             }
         }
+    }
+
+    /// The bucket of one client, which began empty, filled or nearly so: by ticks at the highest rate
+    /// that there is room for. Then the rate is what it was.
+    fn fill(&mut self) {
+        let (id, kind) = (self.one_of(INDIFFERENT), INDIFFERENT);
+        let client = self.client(id).filter(|client| client.kind == kind);
+        let Some(&Client { rate, burst, level, .. }) = client else {
+            return;
+        };
+        let fast = self.room(id);
+        self.call(&Call::Change { id, kind, rate: fast, burst });
+        let ticks = (burst * 1024 - level).div_ceil(fast);
+        let fewer = self.random.pick(&[0, 0, 0, 1, 3]);
+        for _ in 0..ticks.saturating_sub(fewer).min(LONGEST_FILL) {
+            self.call(&Call::Tick);
+        }
+        self.call(&Call::Change { id, kind, rate, burst });
     }
 
     /// Packets, ticks and loads in a mix that fills the queues, empties them or takes the tokens,
