@@ -1,15 +1,17 @@
 #!/bin/sh
 # Shows that the tests can fail: builds the second program with each fault of paper 01's list, with the plain remainder that S-1 of
-# paper 02 does away with, with two wrong figures for S-14 and with three faults against S-8, and runs the tests on it.
-#   tests/faults.sh BUILD    in the root of the repository, after the build of tests/run
-# `compare` and the long run must catch 1 to 6, `pairs` the first four (the others cannot be seen by pairs, see src/pairs.rs),
-# `stretches` 1 to 6 but 5b (which needs longer queues than fit a stretch). What a greedy client gets is wrong with 5 alone: the
-# other faults take no token from a client that meets no 14. The wrong figures, 7 and 7b, are in no printout: of these tests
-# `sure` alone sees them, and by the picks alone too, which have to be fewer than such a figure. It sees 3 to 5b as well, since
-# packets and levels are in the figure, but not by the picks: these are no fewer than those programs themselves are sure of. Who
-# is drawn (1, 2 and 6) is not in the figure. 8 to 8c are of the program `fair`: the test `fair` sees them, and the sentences alone do
-# too, each by another one. The three that are proved hold under 8, whose left shares go to the highest ids, and speak of no
-# refusal, so not of 8c, an empty list that is refused; the words of the request on who gets what is left, and on 22, do.
+# paper 02 does away with, with the full buckets that its S-4 does away with, with two wrong figures for S-14 and with three faults against
+# S-8, and runs the tests on it.
+#   tests/faults.sh BUILD    in the root of the repository, after the build of tests/run; needs target/bin/fair for the cases
+# `compare`, the cases and the long run must catch 1 to 6, 9 and 9b, `pairs` the first four (the others cannot be seen by pairs, see
+# src/pairs.rs), `stretches` all of these but 5b (which needs longer queues than fit a stretch). What a greedy client gets is wrong with 5
+# alone: the other faults take no token from a client that meets no 14. More than a client that switches has bought comes of 9 alone, a full
+# bucket after a join and a change; with 9b, where a change that keeps the type empties the bucket, it is less. The wrong figures, 7 and 7b,
+# are in no printout: of these tests `sure` and the cases alone see them, and `sure` by the picks alone too, which have to be fewer than such
+# a figure. It sees 3 to 5b, 9 and 9b as well, since packets and levels are in the figure, but not by the picks: these are no fewer than those
+# programs themselves are sure of. Who is drawn (1, 2 and 6) is not in the figure. 8 to 8c are of the program `fair`: the test `fair` sees
+# them, and the sentences alone do too, each by another one. The three that are proved hold under 8, whose left shares go to the highest
+# ids, and speak of no refusal, so not of 8c, an empty list that is refused; the words of the request on who gets what is left, and on 22, do.
 # Prints a line for each; the printouts stay in BUILD/fault-N.
 build=$1 passed=0 failed=0
 
@@ -36,6 +38,16 @@ try() { # fault, test, caught or not seen, the test's arguments
     esac
 }
 
+# The same for the cases, which say a line for each: of interest is the first that the planted program fails.
+try_cases() { # fault
+    "$build/cases" "$planted" target/bin/fair tests/cases/*.case >"$folder/cases.txt"
+    case "$? $(grep -m 1 "^failed: .* of slots is" "$folder/cases.txt")" in
+    "0 ") judge "$1" "the cases" "not seen" caught "$(tail -n 1 "$folder/cases.txt")" ;;
+    "1 failed: "*) judge "$1" "the cases" caught caught "$(sed -n "s/^failed: //p" "$folder/cases.txt" | head -n 1)" ;;
+    *) judge "$1" "the cases" "not tried" caught "the test itself failed" ;;
+    esac
+}
+
 # The same for a test's run without the second program: what it says first has to have these words in it.
 try_alone() { # fault, test, what to call it, caught or not seen, words, first seed, count
     "$build/$2" "$planted" "$6" "$7" alone >"$folder/alone.txt"
@@ -55,14 +67,17 @@ plant() { # fault, source, name
 }
 
 "$build/long" 1 3 >"$build/long.txt"
-for fault in 1 2 3 4 5 5b 6 7 7b; do
+for fault in 1 2 3 4 5 5b 6 7 7b 9 9b; do
     plant $fault main slots
     in_printouts=caught scripts=2000 in_pairs=caught in_stretches=caught in_counts="not seen" in_figures=caught in_picks="not seen"
-    case $fault in 5* | 6 | 7*) in_pairs="not seen" ;; esac
-    case $fault in 5b | 7*) in_stretches="not seen" ;; 5) in_counts=caught ;; esac
+    in_spells="not seen"
+    case $fault in 5* | 6 | 7* | 9*) in_pairs="not seen" ;; esac
+    case $fault in 5b | 7*) in_stretches="not seen" ;; 5) in_counts=caught ;; 9) in_spells=caught ;; esac
     case $fault in 1 | 2 | 6) in_figures="not seen" ;; 7*) in_printouts="not seen" scripts=300 in_picks=caught ;; esac
+    try_cases $fault
     try $fault compare "$in_printouts" 1 $scripts
     try $fault pairs "$in_pairs" 1 300
+    try $fault switching "$in_spells" 1 300
     try $fault stretches "$in_stretches" 1 1
     try $fault sure "$in_figures" 1 300
     try_alone $fault sure "the picks alone" "$in_picks" fewer 1 100
