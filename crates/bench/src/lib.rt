@@ -23,12 +23,13 @@ pub struct Tally {
     pub sum: u64,
 }
 
-// A stage of a sequence: ids join, with their kind and burst; some packets come into each queue; then rounds, with arrivals for
-// ids from one up to another.
+// A stage of a sequence: ids join, with their terms; some packets come into each queue; then rounds, with arrivals for ids from
+// one up to another.
 pub struct Stage {
     pub first: u32,
     pub end: u32,
     pub kind: u32,
+    pub rate: u32,
     pub burst: u32,
     pub each: u32,
     pub from: u32,
@@ -371,12 +372,14 @@ fn stage_of(k: u32, n: u32, indifferents: u32, each: u32, rounds: u32) -> Stage
     requires { ⌜ (1 ≤ n) × (n ≤ 128) ⌝ }
     ensures { λ r. ⌜ r .from < r .to ⌝ }
 {
+    let rate = 1024 / n;
     if k == 0 {
         let ticks = 64 * n;
         return Stage {
             first: 0,
             end: indifferents,
             kind: 1,
+            rate,
             burst: 64,
             each: 0,
             from: IDS,
@@ -388,6 +391,7 @@ fn stage_of(k: u32, n: u32, indifferents: u32, each: u32, rounds: u32) -> Stage
         first: indifferents,
         end: n,
         kind: 2,
+        rate,
         burst: 0,
         each,
         from: 0,
@@ -406,8 +410,7 @@ fn run_stage(
     n: u32,
     s: Stage,
 ) -> Tally
-    requires { ⌜ Valid control (tables (now terms) (now stocks) (now handles) (now lengths) (now links)) × (1 ≤ n)
-        × (s .from < s .to) ⌝ }
+    requires { ⌜ Valid control (tables (now terms) (now stocks) (now handles) (now lengths) (now links)) × (s .from < s .to) ⌝ }
     ensures { λ r. ⌜ Valid (r .control)
         (tables (now (terms .exit)) (now (stocks .exit)) (now (handles .exit)) (now (lengths .exit)) (now (links .exit))) ⌝ }
 {
@@ -421,7 +424,7 @@ fn run_stage(
         s.first,
         s.end,
         s.kind,
-        1024 / n,
+        s.rate,
         s.burst,
     );
     let filled = fill_queues(joined, terms, stocks, handles, lengths, links, n, s.each);
