@@ -58,7 +58,8 @@ static uint64_t run_refused(plain_core *core, uint32_t clients, uint32_t beyond,
 }
 
 /* A bucket begins empty (S-4), and rounds whose arrivals are refused, for ids that nobody has, fill it: of BURST packets, at rate
-   LINK / clients, it is full after BURST * clients ticks. The private clients join after them, so that none makes a draw. */
+   LINK / clients, it is full after BURST * clients ticks where clients divides LINK, as in every sequence. The private clients join
+   after them, so that none makes a draw. */
 static void join_all(plain_core *core, uint32_t clients, uint32_t indifferents) {
     uint32_t rate = LINK / clients, ticks = BURST * clients;
     for (uint32_t id = 0; id < indifferents; id++) plain_join(core, id, PLAIN_INDIFFERENT, rate, BURST);

@@ -171,7 +171,7 @@ fn s4_first_packet() {
 /// Client 3 while indifferent: the ticks so spent, the sum of its rates at them and the largest of
 /// its rates, how often it became indifferent, and the packets accepted.
 #[derive(Default)]
-struct Spell {
+struct Account {
     ticks: u32,
     sum: u32,
     largest: u32,
@@ -179,7 +179,7 @@ struct Spell {
     accepted: u32,
 }
 
-impl Spell {
+impl Account {
     fn is_on(&self, core: &Core) -> bool {
         opened(core).clients[3].as_ref().is_some_and(|client| client.kind == INDIFFERENT)
     }
@@ -233,21 +233,21 @@ fn chance_switch(core: &Core, most: u32, chance: &mut Chance) -> Call {
 /// A sequence of 400 calls: in one of `seldom` client 3 switches, and the others are ticks. Behind
 /// each it offers all it can. Beside it are a private client 5, and an indifferent client 7 whose
 /// packets go out among its own.
-fn chance_sequence(seldom: u32, most: u32, chance: &mut Chance) -> Spell {
+fn chance_sequence(seldom: u32, most: u32, chance: &mut Chance) -> Account {
     let mut core = core_of(&[(5, PRIVATE, 12, 0), (7, INDIFFERENT, 12, 2)]);
-    let mut spell = Spell::default();
+    let mut account = Account::default();
     for _ in 0..400 {
         if chance.below(seldom) == 0 {
             let call = chance_switch(&core, most, chance);
-            spell.switch(&mut core, &call);
+            account.switch(&mut core, &call);
         } else {
-            spell.tick(&mut core);
+            account.tick(&mut core);
         }
         arrive(&mut core, 7, 1, 64);
-        spell.offer(&mut core);
-        spell.assert_bought();
+        account.offer(&mut core);
+        account.assert_bought();
     }
-    spell
+    account
 }
 
 /// The point of S-4 ("tenants learnt that each switch hands them a full burst"): over any changes
@@ -262,10 +262,10 @@ fn s4_switching() {
     for count in 0..3000 {
         let seldom = [2, 8, 50, 400][count % 4];
         let most = [30, 200, 1000][chance.below(3) as usize];
-        let spell = chance_sequence(seldom, most, &mut chance);
-        just += u32::from(spell.accepted > 0 && spell.accepted == spell.sum / 1024);
-        lost += u32::from(spell.accepted > 0 && spell.accepted < spell.sum / 1024);
-        would_pass += u32::from(spell.accepted + spell.begun > spell.ticks * spell.largest / 1024);
+        let account = chance_sequence(seldom, most, &mut chance);
+        just += u32::from(account.accepted > 0 && account.accepted == account.sum / 1024);
+        lost += u32::from(account.accepted > 0 && account.accepted < account.sum / 1024);
+        would_pass += u32::from(account.accepted + account.begun > account.ticks * account.largest / 1024);
     }
     assert!(just > 100 && lost > 100 && would_pass > 100, "{} {} {}", just, lost, would_pass);
 }
@@ -276,16 +276,16 @@ fn s4_switching() {
 fn s4_switching_at_every_tick() {
     for (rate, wanted) in [(1, 0), (512, 0), (1023, 0), (1024, 2000)] {
         let mut core = core_of(&[(3, INDIFFERENT, rate, 64)]);
-        let mut spell = Spell { largest: rate, ..Spell::default() };
+        let mut account = Account { largest: rate, ..Account::default() };
         for _ in 0..2000 {
-            spell.offer(&mut core);
-            spell.tick(&mut core);
-            spell.offer(&mut core);
-            spell.switch(&mut core, &Call::Change { id: 3, kind: PRIVATE, rate, burst: 0 });
-            spell.switch(&mut core, &Call::Change { id: 3, kind: INDIFFERENT, rate, burst: 64 });
-            spell.assert_bought();
+            account.offer(&mut core);
+            account.tick(&mut core);
+            account.offer(&mut core);
+            account.switch(&mut core, &Call::Change { id: 3, kind: PRIVATE, rate, burst: 0 });
+            account.switch(&mut core, &Call::Change { id: 3, kind: INDIFFERENT, rate, burst: 64 });
+            account.assert_bought();
         }
-        assert_eq!((spell.accepted, spell.ticks, spell.begun), (wanted, 2000, 2000));
+        assert_eq!((account.accepted, account.ticks, account.begun), (wanted, 2000, 2000));
     }
 }
 
@@ -294,12 +294,12 @@ fn s4_switching_at_every_tick() {
 fn s4_staying() {
     for rate in [1, 341, 1023, 1024] {
         let mut core = core_of(&[(3, INDIFFERENT, rate, 2)]);
-        let mut spell = Spell { largest: rate, ..Spell::default() };
+        let mut account = Account { largest: rate, ..Account::default() };
         for n in 1..=2500 {
-            spell.offer(&mut core);
-            spell.tick(&mut core);
-            spell.offer(&mut core);
-            assert_eq!(spell.accepted, n * rate / 1024);
+            account.offer(&mut core);
+            account.tick(&mut core);
+            account.offer(&mut core);
+            assert_eq!(account.accepted, n * rate / 1024);
         }
     }
 }

@@ -3,8 +3,8 @@
 //! For each seed a script goes through a program. In it a client joins, switches its type, changes its rate and burst, leaves,
 //! joins again, and offers packets all the time. Its spells are its times as an indifferent client, each from the join or change
 //! that made it so to the call that ends it. Of the packets that it offers in spells no more may be accepted than n × R / 1024, with
-//! n its ticks in spells and R the largest rate that it had at one of them; nor more than, over the spells, the sum of the rates
-//! that it had at the spell's ticks / 1024, rounded down for each spell.
+//! n its ticks in spells and R the largest rate that it had at one of them; nor, in any one spell and so in all of them together,
+//! more than the sum of the rates that it had at the spell's ticks / 1024, rounded down for each spell.
 //!
 //! All of this is read off the script and the printout: no core of the second program says what is accepted.
 
@@ -119,13 +119,10 @@ impl Account {
 
     /// What is wrong, in words.
     fn judge(self) -> Result<Account, String> {
-        let (packets, most, bought) = (self.packets(), self.most(), self.bought());
+        let (packets, most) = (self.packets(), self.most());
         let over = |spell: &&Spell| spell.accepted > spell.shares / TOKEN;
         if packets > most {
             return Err(format!("{} packets accepted, and n × R / 1024 is {}", packets, most));
-        }
-        if packets > bought {
-            return Err(format!("{} packets accepted, and the spells bought {}", packets, bought));
         }
         if let Some(spell) = self.spells.iter().find(over) {
             return Err(format!("{} packets in a spell of {} shares", spell.accepted, spell.shares));

@@ -366,8 +366,8 @@ fn traffic_rounds(
 }
 
 // The first stage has the indifferent clients, and fills their buckets, which begin empty (paper 02, S-4): of burst 64 and at
-// rate 1024 / n, a bucket is full after 64 * n rounds, whose arrivals are refused, for ids that nobody has. The private clients
-// join in the second stage, so that no tick of the first makes a draw.
+// rate 1024 / n, a bucket is full after 64 * n rounds where n divides 1024, as in every sequence. Their arrivals are refused, for
+// ids that nobody has. The private clients join in the second stage, so that no tick of the first makes a draw.
 fn stage_of(k: u32, n: u32, indifferents: u32, each: u32, rounds: u32) -> Stage
     requires { ⌜ (1 ≤ n) × (n ≤ 128) ⌝ }
     ensures { λ r. ⌜ r .from < r .to ⌝ }

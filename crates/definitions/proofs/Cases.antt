@@ -7,7 +7,7 @@ use mathlib.Core.Bool.{Bool, true, false, cond, _&&_}
 use mathlib.Core.List.{List, [], _∷_, List·Memᴰ, List·Memᴰ·head, List·Memᴰ·tail}
 use lib.Dec.{eqb}
 use borrow.Author.Tests.{eqb-true}
-use Rattle.definitions.specs.Cases.{Case, Holds, ran, said, stream, targetAt, waiting, opened, cases, taken, samples, begun, printout}
+use Rattle.definitions.specs.Cases.{Case, Holds, ran, said, stream, targetAt, waiting, opened, cases, taken, samples, emptyBuckets, printout}
 use Rattle.definitions.proofs.Everything.{everything}
 use Rattle.definitions.proofs.Laws.Tests.{and-both}
 
@@ -58,9 +58,9 @@ pub samples-hold : Holds samples
 unfolding everything failing sameNumbers taken samples
 samples-hold c m = holds 1 m refl
 
-pub begun-hold : Holds begun
-unfolding everything failing sameNumbers ran said opened begun
-begun-hold c m = holds 1 m refl
+pub emptyBuckets-hold : Holds emptyBuckets
+unfolding everything failing sameNumbers ran said opened emptyBuckets
+emptyBuckets-hold c m = holds 1 m refl
 
 pub printout-holds : Holds printout
 unfolding everything failing sameNumbers ran said targetAt printout

@@ -144,8 +144,8 @@ samples =
 
 -- S-4 of paper 02: "A bucket now begins at level 0 after a join and after a change from private to indifferent." Of client 3, what
 -- a packet gets and the level.
-unfoldable pub begun : List Case
-begun =
+unfoldable pub emptyBuckets : List Case
+emptyBuckets =
     -- four ticks at rate 300 make a token, and three do not
     (let joined = opened 1024 (Join 3 indifferentKind 300 2 ∷ []) in
     said joined (arrivals 1) ++ said joined (slots 3 ++ arrivals 1) ++ said (ran joined (slots 4)) (arrivals 2)

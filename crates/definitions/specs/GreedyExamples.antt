@@ -26,7 +26,7 @@ unfoldable pub ticking : ℕ → History → History
 ticking zero h = h
 ticking (suc n) h = ticking n h then Tick
 
--- a core on which client 3 is indifferent beside a private client. The ticks fill its bucket, wherever a join leaves it.
+-- a core on which client 3 is indifferent beside a private client, with what three ticks have brought into its bucket
 unfoldable pub joined : ℕ → ℕ → Core
 joined rate burst =
     after scheduler

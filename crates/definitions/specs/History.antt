@@ -118,17 +118,20 @@ holdingsOf core = record {
   level = λ id. clientOf core id .level;
 }
 
--- a scheduler with a core inside: what it makes of a call, and whose turn its slots are
-abbrev pub schedulerBy : (Core → Event → Result) → (State → Turn) → Scheduler
-schedulerBy act turnOf = record {
+-- a scheduler with a core inside, begun with any core: what it makes of a call, and whose turn its slots are
+abbrev pub schedulerOn : Core → (Core → Event → Result) → (State → Turn) → Scheduler
+schedulerOn begun act turnOf = record {
   Inside = Core;
-  unopenedCore = unopened;
+  unopenedCore = begun;
   answer = λ core c. act core c .answer;
   next = λ core c. act core c .core;
   pick = pickIn turnOf;
   draws = drawsIn turnOf;
   holdings = holdingsOf;
 }
+
+abbrev pub schedulerBy : (Core → Event → Result) → (State → Turn) → Scheduler
+schedulerBy = schedulerOn unopened
 
 abbrev pub scheduler : Scheduler
 scheduler = schedulerBy step turn

@@ -60,11 +60,16 @@ indifferentBy id (Load other dummies) was = was
 indifferentBy id (Arrive other packet) was = was
 indifferentBy id Tick was = was
 
+-- whether an id is indifferent behind some calls, given whether it was before the first
+unfoldable pub indifferentSince : Bool → ℕ → Trace → Bool
+indifferentSince was id begin = was
+indifferentSince was id (t and d) =
+    cond (isAccepted (d .answer)) (indifferentBy id (d .event) (indifferentSince was id t)) (indifferentSince was id t)
+
 -- "An id is indifferent there if, since the last accepted open before it, its last accepted join or change gave type 1
 -- and no accepted leave of it came later."
-unfoldable pub indifferentAt : ℕ → Trace → Bool
-indifferentAt id begin = false
-indifferentAt id (t and d) = cond (isAccepted (d .answer)) (indifferentBy id (d .event) (indifferentAt id t)) (indifferentAt id t)
+abbrev pub indifferentAt : ℕ → Trace → Bool
+indifferentAt = indifferentSince false
 
 -- "Struck out are the arrives and loads naming another id that is not indifferent at their place, an inactive one or one
 -- above 63 too."

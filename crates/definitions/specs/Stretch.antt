@@ -7,25 +7,14 @@ use Rattle.definitions.specs.Sizes.{shares}
 use Rattle.definitions.specs.Client.{Client}
 use Rattle.definitions.specs.State.{Core}
 use Rattle.definitions.specs.Answers.{isAccepted}
-use Rattle.definitions.specs.Checks.{Result}
+use Rattle.definitions.specs.Tick.{turn}
 use Rattle.definitions.specs.Core.{step}
-use Rattle.definitions.specs.History.{History, Trace, begin, _and_, Scheduler, after, traceOf, pickOf, drawsOf, holdingsOf}
+use Rattle.definitions.specs.History.{History, Trace, begin, _and_, Scheduler, after, traceOf, schedulerOn}
 use Rattle.definitions.specs.Sameness.{names, isSetting, isArrival, isTick}
 
--- what deals with calls, begun with any core in place of an unopened one
-abbrev pub begunWith : (Core → Event → Result) → Core → Scheduler
-begunWith act core = record {
-  Inside = Core;
-  unopenedCore = core;
-  answer = λ before c. act before c .answer;
-  next = λ before c. act before c .core;
-  pick = pickOf;
-  draws = drawsOf;
-  holdings = holdingsOf;
-}
-
+-- the defined scheduler, begun with any core in place of an unopened one
 abbrev pub schedulerFrom : Core → Scheduler
-schedulerFrom = begunWith step
+schedulerFrom core = schedulerOn core step turn
 
 -- some calls from a core on, with what they get, and the core that they leave
 abbrev pub stretch : Core → History → Trace

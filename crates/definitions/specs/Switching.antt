@@ -13,10 +13,11 @@ use Rattle.definitions.specs.Client.{Client, isIndifferent}
 use Rattle.definitions.specs.State.{Core}
 use Rattle.definitions.specs.Answers.{isAccepted}
 use Rattle.definitions.specs.Checks.{Result}
+use Rattle.definitions.specs.Tick.{turn}
 use Rattle.definitions.specs.Core.{step}
-use Rattle.definitions.specs.History.{History, Dealing, Trace, begin, _and_, after, traceOf, clientOf, scheduler}
-use Rattle.definitions.specs.Sameness.{isTick, indifferentBy}
-use Rattle.definitions.specs.Stretch.{begunWith, stretch, oneIf, ticks, isOffer, acceptances, tokens}
+use Rattle.definitions.specs.History.{History, Dealing, Trace, begin, _and_, after, traceOf, clientOf, schedulerOn, scheduler}
+use Rattle.definitions.specs.Sameness.{isTick, indifferentSince}
+use Rattle.definitions.specs.Stretch.{stretch, behind, oneIf, ticks, isOffer, acceptances, tokens}
 use Rattle.definitions.specs.Greedy.{Greedy}
 
 -- the rate of an id after an accepted call, given what it was before
@@ -36,9 +37,8 @@ bucketOf c = cond (isIndifferent (c .kind)) (c .level) 0
 -- of an id that at the start is this client
 module _ (id : ℕ) (client : Client) where
   -- its type and its rate at a place of the stretch
-  unfoldable pub indifferentIn : Trace → Bool
-  indifferentIn begin = isIndifferent (client .kind)
-  indifferentIn (t and d) = cond (isAccepted (d .answer)) (indifferentBy id (d .event) (indifferentIn t)) (indifferentIn t)
+  abbrev pub indifferentIn : Trace → Bool
+  indifferentIn = indifferentSince (isIndifferent (client .kind)) id
 
   unfoldable pub rateIn : Trace → ℕ
   rateIn begin = client .rate
@@ -62,10 +62,11 @@ module _ (id : ℕ) (client : Client) where
   admissions begin = 0
   admissions (t and d) = oneIf (indifferentIn t && (isOffer id (d .event) && isAccepted (d .answer))) (admissions t)
 
-  -- what came into its bucket in the present spell, with what was there at the start of the stretch if that is in the spell
+  -- what a call brings it: its rate, at a refill, whether the bucket has room for it or not
   unfoldable pub income : Trace → Dealing → ℕ
   income t d = cond (isRefill t d) (rateIn t) 0
 
+  -- what the present spell has brought it, with what was in its bucket if the spell was under way at the start
   unfoldable pub credit : Trace → ℕ
   credit begin = bucketOf client
   credit (t and d) = cond (indifferentIn (t and d)) (credit t + income t d) 0
@@ -82,22 +83,30 @@ module _ (id : ℕ) (client : Client) where
 -- From any core on, and whatever is called: opens, joins, changes and leaves of the client as of others. What deals with the
 -- calls is a parameter, so that the rule before the request can be held against it (SwitchingExamples).
 module _ (act : Core → Event → Result) where
+  abbrev pub dealtBy : Core → History → Trace
+  dealtBy core = traceOf (schedulerOn core act turn)
+
   -- no more packets are accepted than its spells pay for, each by itself
   unfoldable pub BySpells : Type 0
   BySpells =
       (core : Core) (id : ℕ) (calls : History)
-      → admissions id (clientOf core id) (traceOf (begunWith act core) calls)
-      ≤ affordable id (clientOf core id) (traceOf (begunWith act core) calls)
+      → admissions id (clientOf core id) (dealtBy core calls)
+      ≤ affordable id (clientOf core id) (dealtBy core calls)
 
   -- so no more than the ticks that it spent indifferent bring at its largest rate, beside what was in its bucket at the start
   unfoldable pub ByTicks : Type 0
   ByTicks =
       (core : Core) (id : ℕ) (calls : History)
-      → admissions id (clientOf core id) (traceOf (begunWith act core) calls)
-      ≤ tokens (bucketOf (clientOf core id)) (topRate id (clientOf core id) (traceOf (begunWith act core) calls))
-      (refills id (clientOf core id) (traceOf (begunWith act core) calls))
+      → admissions id (clientOf core id) (dealtBy core calls)
+      ≤ tokens (bucketOf (clientOf core id)) (topRate id (clientOf core id) (dealtBy core calls))
+      (refills id (clientOf core id) (dealtBy core calls))
 
 pub record Switching : Type 0 where
+  -- what is read off the calls is what the core holds
+  pub typeRead : (core : Core) (id : ℕ) (calls : History)
+      → indifferentIn id (clientOf core id) (stretch core calls) ≡ isIndifferent (clientOf (behind core calls) id .kind)
+  pub rateRead : (core : Core) (id : ℕ) (calls : History)
+      → rateIn id (clientOf core id) (stretch core calls) ≡ clientOf (behind core calls) id .rate
   pub bySpells : BySpells step
   pub byTicks : ByTicks step
   -- a client that is private or not active at the start has nothing in a bucket: n × rate / 1024, rounded down
@@ -105,8 +114,9 @@ pub record Switching : Type 0 where
       → isIndifferent (clientOf core id .kind) ≡ false
       → admissions id (clientOf core id) (stretch core calls)
       ≤ tokens 0 (topRate id (clientOf core id) (stretch core calls)) (refills id (clientOf core id) (stretch core calls))
-  -- An indifferent client gains nothing by switching: one that stays as it is, and offers all it can (S-10), has at least as many
-  -- packets accepted as one that switches from the same core on, at rates up to that one, and is indifferent for no more ticks.
+  -- An indifferent client of burst 2 or more gains nothing by switching: where it stays as it is, and offers all it can (S-10), it
+  -- has at least as many packets accepted as where it switches from the same core on, at rates up to its own, and is indifferent
+  -- for no more ticks.
   pub nothingGained : (h : History) (id : ℕ) (switching staying : History)
       → Greedy id (clientOf (after scheduler h) id) (stretch (after scheduler h) staying)
       → topRate id (clientOf (after scheduler h) id) (stretch (after scheduler h) switching)

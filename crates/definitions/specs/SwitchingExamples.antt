@@ -12,9 +12,9 @@ use Rattle.definitions.specs.State.{State, Core, running, updated, put, 
 use Rattle.definitions.specs.Checks.{Result, accepted, checked, unchanged, joinChecks, changeChecks}
 use Rattle.definitions.specs.Calls.{sideAfterChange}
 use Rattle.definitions.specs.Core.{whenOpened, step}
-use Rattle.definitions.specs.History.{History, start, _then_, traceOf, clientOf}
-use Rattle.definitions.specs.Stretch.{begunWith, stretch, tokens}
-use Rattle.definitions.specs.Switching.{bucketOf, rateIn, refills, topRate, admissions, affordable, BySpells, ByTicks}
+use Rattle.definitions.specs.History.{History, start, _then_, clientOf}
+use Rattle.definitions.specs.Stretch.{stretch, tokens}
+use Rattle.definitions.specs.Switching.{bucketOf, rateIn, refills, topRate, admissions, affordable, dealtBy, BySpells, ByTicks}
 use Rattle.definitions.specs.GreedyExamples.{offer, ticking, joined, thrice}
 use Rattle.definitions.specs.GuaranteeExamples.{privateOnly}
 
@@ -24,12 +24,12 @@ toIndifferent rate burst h = h then Change 3 indifferentKind rate burst
 abbrev pub toPrivate : History → History
 toPrivate h = h then Change 3 privateKind 20 0
 
--- Two spells with a tick between them: three ticks at rate 700, and five at rate 500. In each it offers until it is refused.
-unfoldable pub twoSpells : History
-twoSpells = thrice (ticking 5 (toIndifferent 500 4 (ticking 1 (toPrivate (thrice (ticking 3 joins))))))
+-- Two spells at a rate, of so many ticks, with a tick between them. At the end of each it offers until it is refused.
+unfoldable pub twoSpells : ℕ → ℕ → ℕ → History
+twoSpells rate first second = thrice (ticking second (toIndifferent rate 4 (ticking 1 (toPrivate (thrice (ticking first joins))))))
   where
     joins : History
-    joins = start then Join 3 indifferentKind 700 2
+    joins = start then Join 3 indifferentKind rate 4
 
 -- Three spells without a tick, and two offers in each.
 unfoldable pub restless : History
@@ -43,18 +43,20 @@ unfoldable pub slowed : History
 slowed = ticking 1 (toIndifferent 1 4 (thrice (ticking 4 (start then Join 3 indifferentKind 1000 4))))
 
 -- In some calls from a core on, so many of client 3's packets are accepted while it is indifferent; its spells pay for so many;
--- and so many are what the ticks that it spent indifferent bring at its largest rate.
+-- and so many are what was in its bucket and the ticks that it spent indifferent bring, at its largest rate.
 pub record Gets (act : Core → Event → Result) (core : Core) (calls : History) (got paid brought : ℕ) : Type 0 where
-  pub accepted : admissions 3 (clientOf core 3) (traceOf (begunWith act core) calls) ≡ got
-  pub bySpells : affordable 3 (clientOf core 3) (traceOf (begunWith act core) calls) ≡ paid
-  pub byTicks : tokens (bucketOf (clientOf core 3)) (topRate 3 (clientOf core 3) (traceOf (begunWith act core) calls))
-      (refills 3 (clientOf core 3) (traceOf (begunWith act core) calls))
+  pub accepted : admissions 3 (clientOf core 3) (dealtBy act core calls) ≡ got
+  pub bySpells : affordable 3 (clientOf core 3) (dealtBy act core calls) ≡ paid
+  pub byTicks : tokens (bucketOf (clientOf core 3)) (topRate 3 (clientOf core 3) (dealtBy act core calls))
+      (refills 3 (clientOf core 3) (dealtBy act core calls))
       ≡ brought
 
 pub record SwitchingThere : Type 0 where
-  -- Two packets in each spell, and no more are paid for. Eight ticks at rate 700 would bring five: what the first spell had short
-  -- of a token is lost.
-  pub spelled : Gets step privateOnly twoSpells 4 4 5
+  -- a packet in each of two spells that bring a token each, and no less is claimed by ticks
+  pub even : Gets step privateOnly (twoSpells 512 2 2) 2 2 2
+  -- Spells that bring 1800 and 3000 pay for one packet and for two. Together they brought four: what each had short of a token is
+  -- lost.
+  pub spelled : Gets step privateOnly (twoSpells 600 3 5) 3 3 4
   -- without a tick there is nothing
   pub rested : Gets step privateOnly restless 0 0 0
 

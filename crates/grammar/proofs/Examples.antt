@@ -6,7 +6,7 @@ use native.Mathlib.Omega.{arith}
 use lib.ListN.{length, length-replicate, replicate}
 use borrow.Author.Tests.{lt-ltb}
 use Rattle.definitions.specs.History.{History, scheduler, after, answerAt, dealingAt, traceOf}
-use Rattle.definitions.specs.Sameness.{isTick, names, indifferentBy, indifferentAt, isStruck, kept, departure}
+use Rattle.definitions.specs.Sameness.{isTick, names, indifferentBy, indifferentSince, isStruck, kept, departure}
 use Rattle.definitions.proofs.Everything.{everything}
 use Rattle.definitions.specs.Sizes.{numberLimit, handleLimit}
 use Rattle.definitions.specs.FairRates.{cutSum, fits, largestUpTo, fairLevel, extra, ratesAt, fairRates}
@@ -30,7 +30,7 @@ printing = Unit {0}
 
 -- and what reads a text beside its printout
 unfoldable pub comparing : Type 0
-unfolding printing after answerAt dealingAt traceOf isTick names indifferentBy indifferentAt isStruck kept departure lines
+unfolding printing after answerAt dealingAt traceOf isTick names indifferentBy indifferentSince isStruck kept departure lines
     heldFrom heard toldFrom zip zipWith noted notedFrom
 comparing = Unit {0}
 

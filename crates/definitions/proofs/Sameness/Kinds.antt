@@ -7,11 +7,12 @@ use lib.Dec.{eqb}
 use Rattle.definitions.specs.Event.{Event}
 use Rattle.definitions.specs.Sizes.{indifferentKind}
 use Rattle.definitions.specs.Client.{Client, isIndifferent, kindOf, sameKind, joining, retuned, changed, charged, refilled}
-use Rattle.definitions.specs.State.{Core}
+use Rattle.definitions.specs.State.{Core, unopened}
 use Rattle.definitions.specs.Answers.{isAccepted}
 use Rattle.definitions.specs.Core.{step}
 use Rattle.definitions.specs.History.{History, start, _then_, Dealing, Trace, clientOf, scheduler, after, answerAt, dealingAt, traceOf}
-use Rattle.definitions.specs.Sameness.{indifferentBy, indifferentAt}
+use Rattle.definitions.specs.Sameness.{indifferentBy, indifferentSince, indifferentAt}
+use Rattle.definitions.specs.Stretch.{stretch, behind}
 use Rattle.definitions.proofs.Laws.Kinds.{sameKind-true, kindOf-indifferent}
 use Rattle.definitions.proofs.Readings.{Reading, told}
 
@@ -56,7 +57,13 @@ pub told-indifferent : (id : ℕ) (core : Core) (c : Event)
     (isIndifferent (clientOf core id .kind))
 told-indifferent id = told id (λ c. isIndifferent (c .kind)) (indifferentBy id) (indifferent-reading id)
 
+-- so in any calls from any core on, and in a history
+pub indifferent-since : (core : Core) (id : ℕ) (h : History)
+    → indifferentSince (holdsIndifferent id core) id (stretch core h) ≡ holdsIndifferent id (behind core h)
+unfolding indifferentSince traceOf dealingAt after answerAt holdsIndifferent
+indifferent-since core id start = refl
+indifferent-since core id (h then c) = rw (indifferent-since core id h) (sym (told-indifferent id (behind core h) c))
+
 pub indifferent-held : (id : ℕ) (h : History) → indifferentAt id (trace h) ≡ holdsIndifferent id (after scheduler h)
-unfolding indifferentAt traceOf dealingAt after answerAt holdsIndifferent clientOf
-indifferent-held id start = refl
-indifferent-held id (h then c) = rw (indifferent-held id h) (sym (told-indifferent id (after scheduler h) c))
+unfolding holdsIndifferent clientOf
+indifferent-held id h = indifferent-since unopened id h

@@ -10,7 +10,7 @@ use Rattle.definitions.specs.declared.Answer.{Answer}
 use Rattle.definitions.specs.Sizes.{places, indifferentKind, privateKind}
 use Rattle.definitions.specs.Answers.{shown}
 use Rattle.definitions.specs.History.{History, start, _then_, end, Pick, noSlot, byRule1, byRule2, byRule3, after, answerAt, dealingAt, traceOf}
-use Rattle.definitions.specs.Sameness.{isTick, names, indifferentBy, indifferentAt, isStruck, kept, log, departure, Sameness}
+use Rattle.definitions.specs.Sameness.{isTick, names, indifferentBy, indifferentSince, isStruck, kept, log, departure, Sameness}
 use Rattle.definitions.specs.Altered.{withTick, slotBy, withArrive, tokenLeft, arriveIf, withChange}
 use Rattle.definitions.specs.Leaks.{waitingOnly, turnOfWaiting, drawnAmongWaiting, nextPrivate, idles, turnHandedOn, idleHandedOn, roomInStore, oneStore, orderKept, sideKept, changeKeeping, queueOverChange, Leaking}
 use Rattle.definitions.proofs.Everything.{everything}
@@ -34,7 +34,7 @@ latestAnswer (entry ∷ entries) = getD (shown (entry .1)) 0 0
 
 -- what the claims below compute with
 unfoldable computed : Type 0
-unfolding everything Sameness kept isStruck indifferentAt indifferentBy answerAt dealingAt traceOf after log departure isTick
+unfolding everything Sameness kept isStruck indifferentSince indifferentBy answerAt dealingAt traceOf after log departure isTick
     names withTick slotBy quiet busy latestPick latestAnswer
 computed = Unit {0}
 

@@ -4,7 +4,7 @@
 use Prim.Native.Nat.{ℕ, _*_, _≤_, _<_, min}
 use mathlib.Core.Path.{_≡_, refl, sym, ap, subst, _∙_}
 use mathlib.Core.Bool.{Bool, true, false, cond, not, _&&_}
-use mathlib.Core.List.{List, [], _∷_, tail}
+use mathlib.Core.List.{[], _∷_}
 use native.Mathlib.Nat.{mul-le-mul-right}
 use native.Mathlib.Omega.{arith}
 use lib.Dec.{T, leb, ltb, lit<}
@@ -15,12 +15,11 @@ use Rattle.definitions.specs.Event.{Event, Open, Join, Change, Leave, Lo
 use Rattle.definitions.specs.declared.Answer.the-variants.{Accepted, Refused}
 use Rattle.definitions.specs.Sizes.{ids, places, shares, shortest, longest, indifferentKind}
 use Rattle.definitions.specs.Client.{private, Client, kindOf, isIndifferent, joining, changed}
-use Rattle.definitions.specs.Stock.{bare, spent}
+use Rattle.definitions.specs.Stock.{bare}
 use Rattle.definitions.specs.State.{State, Core, unopened, running, updated, stocked, emptied}
 use Rattle.definitions.specs.Answers.{isAccepted}
 use Rattle.definitions.specs.Checks.{accepted, checked, check, within, unchanged, joinChecks, changeChecks, activeChecks, arriveChecks}
 use Rattle.definitions.specs.Calls.{onJoin, sideAfterChange, onChange, onArrive}
-use Rattle.definitions.specs.Tick.{turn, sideAfter, slotted, onTick}
 use Rattle.definitions.specs.Core.{step}
 use Rattle.definitions.specs.History.{History, start, _then_, after, answerAt, dealingAt, traceOf, clientOf, stockOf, scheduler}
 use Rattle.definitions.specs.Sameness.{isTick}
@@ -31,11 +30,11 @@ use Rattle.definitions.specs.FirstPacket.{Begun, FirstPacket}
 use Rattle.definitions.proofs.Laws.Tests.{lt-cases, T-true}
 use Rattle.definitions.proofs.Laws.Kinds.{indifferent-kind}
 use Rattle.definitions.proofs.Laws.Checked.{refused-differs, checked-accepted}
-use Rattle.definitions.proofs.Laws.Clients.{put-same, stocksAfter-cases}
+use Rattle.definitions.proofs.Laws.Clients.{put-same}
 use Rattle.definitions.proofs.Limits.{limits}
 use Rattle.definitions.proofs.Limits.Client.{indifferent-limits}
 use Rattle.definitions.proofs.Bound.{Moved, step-moved, calm-before, stretch-moved}
-use Rattle.definitions.proofs.Stretches.Waiting.{waits, step-waits}
+use Rattle.definitions.proofs.Stretches.Waiting.{waits, step-waits, tick-shrinks}
 use Rattle.definitions.proofs.Stretches.Guarantee.{behind-limits}
 
 join-begun : (core : Core) (id rate burst : ℕ)
@@ -71,22 +70,6 @@ unfolding spill
 filled-on true n rate burst {c = c} {d = d} r b e m = omega (arith, e, r, m .level, ap (λ (k : ℕ). k * shares) b)
 filled-on false n rate burst {c = c} {d = d} r b e m = omega (arith, e, m .level)
 
--- a slot adds nothing to what waits
-slot-waits : (s : State) (id : ℕ) → waits (onTick s .core) id ≤ waits (running s) id
-unfolding waits stockOf onTick slotted updated sideAfter spent
-slot-waits s id =
-    stocksAfter-cases (λ j k. length (k .queue) ≤ length (s .side .stocks j .queue)) (turn s .rule) (turn s .id)
-    (s .side .stocks) (λ j. omega arith) (shorter (s .side .stocks (turn s .id) .queue)) id
-  where
-    shorter : (queue : List Packet) → length (tail queue) ≤ length queue
-    shorter [] = omega arith
-    shorter (p ∷ ps) = omega arith
-
-tick-waits : (core : Core) (id : ℕ) → waits (step core Tick .core) id ≤ waits core id
-unfolding step
-tick-waits unopened id = omega arith
-tick-waits (running s) id = slot-waits s id
-
 -- of a client that nothing waits of, nothing waits behind a call that does not reset it and by which no packet of it is accepted
 step-none : (core : Core) (id : ℕ) (c : Event)
     → T (isIndifferent (clientOf core id .kind))
@@ -95,7 +78,7 @@ step-none : (core : Core) (id : ℕ) (c : Event)
     → waits core id ≡ 0
     → waits (step core c .core) id ≡ 0
 unfolding isTick
-step-none core id Tick indifferently spared none empty = omega (arith, tick-waits core id)
+step-none core id Tick indifferently spared none empty = omega (arith, tick-shrinks core id)
 step-none core id (Open threshold discipline seed) indifferently spared none empty =
     step-waits core id (Open threshold discipline seed) indifferently refl spared ∙ rw none empty
 step-none core id (Join other kind rate burst) indifferently spared none empty =

@@ -28,7 +28,7 @@ use Rattle.definitions.proofs.Laws.Checked.{Passed, checked-cases, chec
 use Rattle.definitions.proofs.Laws.Clients.{put-cases}
 use Rattle.definitions.proofs.Facts.{tick-client}
 use Rattle.definitions.proofs.Readings.{Reading, told}
-use Rattle.definitions.proofs.Sameness.Kinds.{told-indifferent}
+use Rattle.definitions.proofs.Sameness.Kinds.{holdsIndifferent, indifferent-since}
 use Rattle.definitions.proofs.Bound.{shares-positive}
 use Rattle.definitions.proofs.Stretches.Greedy.{greedy-exact}
 
@@ -190,9 +190,8 @@ module _ (core : Core) (id : ℕ) where
   client = clientOf core id
 
   held-kind : (h : History) → indifferentIn id client (stretch core h) ≡ isIndifferent (clientOf (behind core h) id .kind)
-  unfolding indifferentIn traceOf dealingAt answerAt after
-  held-kind start = refl
-  held-kind (h then c) = rw (held-kind h) (sym (told-indifferent id (behind core h) c))
+  unfolding holdsIndifferent
+  held-kind h = indifferent-since core id h
 
   held-rate : (h : History) → rateIn id client (stretch core h) ≡ clientOf (behind core h) id .rate
   unfolding rateIn traceOf dealingAt answerAt after
@@ -323,6 +322,8 @@ bucket-level c = go (isIndifferent (c .kind))
 pub switching : Switching
 unfolding BySpells ByTicks
 switching = record {
+  typeRead = held-kind;
+  rateRead = held-rate;
   bySpells = by-spells;
   byTicks = within;
   fromNothing = λ core id calls e. rw (bucket-none (clientOf core id) e) at (within core id calls);

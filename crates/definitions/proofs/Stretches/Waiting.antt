@@ -1,10 +1,10 @@
--- What a refused packet tells of its client, and how many packets of a client wait behind a call that is no tick. By cases over
--- the calls. Assumes nothing.
+-- What a refused packet tells of its client, and how many packets of a client wait behind a call: behind a tick no more than
+-- before. By cases over the calls. Assumes nothing.
 use Prim.Native.Nat.{ℕ, _≤_, _<_}
 use mathlib.Core.Path.{_≡_, refl, sym, subst}
 use mathlib.Core.Logic.{inl, inr}
 use mathlib.Core.Bool.{Bool, true, false, not, _&&_, _||_}
-use mathlib.Core.List.{List}
+use mathlib.Core.List.{List, [], _∷_, tail}
 use native.Mathlib.Omega.{arith}
 use lib.Dec.{T, eqb, leb}
 use lib.ListN.{length, length-append}
@@ -13,18 +13,19 @@ use Rattle.definitions.specs.declared.Packet.{Packet}
 use Rattle.definitions.specs.Event.{Event, Open, Join, Change, Leave, Load, Arrive, Tick}
 use Rattle.definitions.specs.Sizes.{places, shares}
 use Rattle.definitions.specs.Client.{sameKind, kindOf, isIndifferent}
-use Rattle.definitions.specs.Stock.{Stock, bare, loaded, queued}
+use Rattle.definitions.specs.Stock.{Stock, bare, loaded, queued, spent}
 use Rattle.definitions.specs.State.{Side, State, Core, unopened, running, fresh, updated, put, stocked, emptied}
 use Rattle.definitions.specs.Answers.{number, isAccepted}
 use Rattle.definitions.specs.Checks.{Check, accepted, checked, unchanged, openChecks, activeChecks, joinChecks, changeChecks, leaveChecks, loadChecks, arriveChecks}
 use Rattle.definitions.specs.Calls.{onOpen, onJoin, sideAfterChange, onChange, onLeave, onLoad, sideAfterArrival, onArrive}
+use Rattle.definitions.specs.Tick.{turn, sideAfter, slotted, onTick}
 use Rattle.definitions.specs.Core.{step}
 use Rattle.definitions.specs.History.{clientOf, stockOf}
 use Rattle.definitions.specs.Sameness.{names, isSetting, isArrival, isTick}
 use Rattle.definitions.specs.Stretch.{oneIf, isOpen, resets, isOffer}
 use Rattle.definitions.proofs.Laws.Tests.{T-true, T-and, true-false, cond-both, eqb-same}
 use Rattle.definitions.proofs.Laws.Checked.{Passed, FailsFirst, checked-first, checked-spared}
-use Rattle.definitions.proofs.Laws.Clients.{put-other, put-cases, put-keeps}
+use Rattle.definitions.proofs.Laws.Clients.{put-other, put-cases, put-keeps, stocksAfter-cases}
 
 -- how many packets of a client wait
 unfoldable pub waits : Core → ℕ → ℕ
@@ -137,3 +138,19 @@ step-waits (running s) id (Load other dummies) indifferently still spared =
 step-waits (running s) id (Arrive other p) indifferently still spared =
     checked-waits s id false (eqb other id) (arriveChecks s other p) _ (λ passed kept. arrive-waits s id other p) spared
 step-waits (running s) id Tick indifferently still spared = true-false refl still
+
+-- a slot adds nothing to what waits of a client
+slot-waits : (s : State) (id : ℕ) → waits (onTick s .core) id ≤ waits (running s) id
+unfolding waits stockOf onTick slotted updated sideAfter spent
+slot-waits s id =
+    stocksAfter-cases (λ j k. length (k .queue) ≤ length (s .side .stocks j .queue)) (turn s .rule) (turn s .id)
+    (s .side .stocks) (λ j. omega arith) (shorter (s .side .stocks (turn s .id) .queue)) id
+  where
+    shorter : (queue : List Packet) → length (tail queue) ≤ length queue
+    shorter [] = omega arith
+    shorter (p ∷ ps) = omega arith
+
+pub tick-shrinks : (core : Core) (id : ℕ) → waits (step core Tick .core) id ≤ waits core id
+unfolding step
+tick-shrinks unopened id = omega arith
+tick-shrinks (running s) id = slot-waits s id
