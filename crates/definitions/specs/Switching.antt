@@ -6,7 +6,7 @@
 use Prim.Native.Nat.{ℕ, _+_, _/_, _≤_, max}
 use mathlib.Core.Path.{_≡_}
 use mathlib.Core.Bool.{Bool, false, cond, _&&_}
-use lib.Dec.{eqb}
+use lib.Dec.{T, eqb}
 use Rattle.definitions.specs.Event.{Event, Open, Join, Change, Leave, Load, Arrive, Tick}
 use Rattle.definitions.specs.Sizes.{shares}
 use Rattle.definitions.specs.Client.{Client, isIndifferent}
@@ -17,7 +17,7 @@ use Rattle.definitions.specs.Tick.{turn}
 use Rattle.definitions.specs.Core.{step}
 use Rattle.definitions.specs.History.{History, Dealing, Trace, begin, _and_, after, traceOf, clientOf, schedulerOn, scheduler}
 use Rattle.definitions.specs.Sameness.{isTick, indifferentSince}
-use Rattle.definitions.specs.Stretch.{stretch, behind, oneIf, ticks, isOffer, acceptances, tokens}
+use Rattle.definitions.specs.Stretch.{stretch, behind, oneIf, ticks, isOffer, undisturbed, acceptances, tokens}
 use Rattle.definitions.specs.Greedy.{Greedy}
 
 -- the rate of an id after an accepted call, given what it was before
@@ -83,6 +83,7 @@ module _ (id : ℕ) (client : Client) where
 -- From any core on, and whatever is called: opens, joins, changes and leaves of the client as of others. What deals with the
 -- calls is a parameter, so that the rule before the request can be held against it (SwitchingExamples).
 module _ (act : Core → Event → Result) where
+  -- some calls from a core on, with what they get
   abbrev pub dealtBy : Core → History → Trace
   dealtBy core = traceOf (schedulerOn core act turn)
 
@@ -101,12 +102,23 @@ module _ (act : Core → Event → Result) where
       ≤ tokens (bucketOf (clientOf core id)) (topRate id (clientOf core id) (dealtBy core calls))
       (refills id (clientOf core id) (dealtBy core calls))
 
+-- What is counted of a client that is indifferent all along, on the terms of the start: the ticks, its acceptances, and a rate that
+-- is no larger than its own. So paper 01's bound is the case without a switch.
+pub record Unswitched (id : ℕ) (client : Client) (t : Trace) : Type 0 where
+  pub ticked : refills id client t ≡ ticks t
+  pub accepted : admissions id client t ≡ acceptances id t
+  pub rated : topRate id client t ≤ client .rate
+
 pub record Switching : Type 0 where
   -- what is read off the calls is what the core holds
   pub typeRead : (core : Core) (id : ℕ) (calls : History)
       → indifferentIn id (clientOf core id) (stretch core calls) ≡ isIndifferent (clientOf (behind core calls) id .kind)
   pub rateRead : (core : Core) (id : ℕ) (calls : History)
       → rateIn id (clientOf core id) (stretch core calls) ≡ clientOf (behind core calls) id .rate
+  pub staying : (core : Core) (id : ℕ) (calls : History)
+      → T (isIndifferent (clientOf core id .kind))
+      → T (undisturbed id (stretch core calls))
+      → Unswitched id (clientOf core id) (stretch core calls)
   pub bySpells : BySpells step
   pub byTicks : ByTicks step
   -- a client that is private or not active at the start has nothing in a bucket: n × rate / 1024, rounded down

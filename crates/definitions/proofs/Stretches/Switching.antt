@@ -2,12 +2,12 @@
 -- bucket, since a join or a change of type begins with an empty one. So, by induction over the calls, the packets of each spell
 -- are paid for by what came in during it. Assumes nothing.
 use Prim.Native.Nat.{ℕ, _+_, _-_, _*_, _/_, _≤_, min, max}
-use mathlib.Core.Path.{_≡_, refl, sym, _∙_}
+use mathlib.Core.Path.{_≡_, refl, sym, ap, _∙_}
 use mathlib.Core.Bool.{Bool, true, false, cond, not, _&&_, _||_}
 use mathlib.Core.List.{List}
 use native.Mathlib.Nat.{le-div-iff-mul-le, div-mul-le-self, mul-le-mul-left, mul-le-mul}
 use native.Mathlib.Omega.{arith}
-use lib.Dec.{eqb, leb}
+use lib.Dec.{T, eqb, leb}
 use borrow.Author.Tests.{eq-eqb, ne-eqb, leb-true}
 use Rattle.definitions.specs.declared.Packet.{Packet}
 use Rattle.definitions.specs.Event.{Event, Open, Join, Change, Leave, Load, Arrive, Tick}
@@ -21,15 +21,15 @@ use Rattle.definitions.specs.Calls.{onOpen, onJoin, sideAfterChange, onC
 use Rattle.definitions.specs.Core.{step}
 use Rattle.definitions.specs.History.{History, start, _then_, Trace, begin, _and_, after, answerAt, dealingAt, traceOf, clientOf, scheduler}
 use Rattle.definitions.specs.Sameness.{names, isArrival, isTick}
-use Rattle.definitions.specs.Stretch.{stretch, behind, oneIf, ticks, isOffer, acceptances, tokens, bought}
-use Rattle.definitions.specs.Switching.{rateBy, bucketOf, indifferentIn, rateIn, isRefill, refills, topRate, admissions, income, credit, closed, affordable, BySpells, ByTicks, Switching}
-use Rattle.definitions.proofs.Laws.Tests.{cond-same}
+use Rattle.definitions.specs.Stretch.{stretch, behind, oneIf, ticks, isOffer, undisturbed, acceptances, tokens, bought}
+use Rattle.definitions.specs.Switching.{rateBy, bucketOf, indifferentIn, rateIn, isRefill, refills, topRate, admissions, income, credit, closed, affordable, BySpells, ByTicks, Unswitched, Switching}
+use Rattle.definitions.proofs.Laws.Tests.{T-true, cond-same}
 use Rattle.definitions.proofs.Laws.Checked.{Passed, checked-cases, checked-spared}
 use Rattle.definitions.proofs.Laws.Clients.{put-cases}
 use Rattle.definitions.proofs.Facts.{tick-client}
 use Rattle.definitions.proofs.Readings.{Reading, told}
 use Rattle.definitions.proofs.Sameness.Kinds.{holdsIndifferent, indifferent-since}
-use Rattle.definitions.proofs.Bound.{shares-positive}
+use Rattle.definitions.proofs.Bound.{calm-before, stretch-moved, shares-positive}
 use Rattle.definitions.proofs.Stretches.Greedy.{greedy-exact}
 
 -- A client d after a client c: a packet, if one was accepted and c was indifferent, and what is left in the bucket are paid for
@@ -301,6 +301,34 @@ module _ (id : ℕ) (client : Client) where
   by-ticks t =
       le-div-iff-mul-le shares-positive .1 (omega (arith, came-in t, div-mul-le-self (credit id client t) shares))
 
+-- without a switch, what is counted of the client's spells is counted of the stretch
+module _ (core : Core) (id : ℕ) (indifferently : T (isIndifferent (clientOf core id .kind))) where
+  unswitched : (h : History)
+      → T (undisturbed id (stretch core h))
+      → Unswitched id (clientOf core id) (stretch core h)
+  unfolding refills admissions topRate isRefill ticks acceptances traceOf dealingAt answerAt after
+  unswitched start calm = record { ticked = refl; accepted = refl; rated = omega arith }
+  unswitched (h then c) calm =
+      let calms = calm-before core id h c calm in
+      let moved = stretch-moved core id indifferently h (calms .0) in
+      let before = unswitched h (calms .0) in
+      let on : indifferentIn id (clientOf core id) (stretch core h) ≡ true =
+      held-kind core id h ∙ ap isIndifferent (moved .kind) ∙ T-true indifferently in
+      let rate : rateIn id (clientOf core id) (stretch core h) ≡ clientOf core id .rate = held-rate core id h ∙ moved .rate in
+      record {
+        ticked = rw (on, before .ticked);
+        accepted = rw (on, before .accepted);
+        rated = rw (on, rate) (larger (isTick c) (before .rated));
+      }
+    where
+      larger : (b : Bool)
+          → topRate id (clientOf core id) (stretch core h) ≤ clientOf core id .rate
+          → cond b (max (clientOf core id .rate) (topRate id (clientOf core id) (stretch core h)))
+          (topRate id (clientOf core id) (stretch core h))
+          ≤ clientOf core id .rate
+      larger true low = omega (arith, low)
+      larger false low = low
+
 -- more in the bucket, a larger rate and more ticks buy no fewer packets
 tokens-grow : (level rate n level′ rate′ n′ : ℕ)
     → level ≤ level′
@@ -324,6 +352,7 @@ unfolding BySpells ByTicks
 switching = record {
   typeRead = held-kind;
   rateRead = held-rate;
+  staying = λ core id calls indifferently. unswitched core id indifferently calls;
   bySpells = by-spells;
   byTicks = within;
   fromNothing = λ core id calls e. rw (bucket-none (clientOf core id) e) at (within core id calls);
