@@ -7,7 +7,7 @@ use mathlib.Core.Bool.{Bool, true, false, cond, _&&_}
 use mathlib.Core.List.{List, [], _∷_, List·Memᴰ, List·Memᴰ·head, List·Memᴰ·tail}
 use lib.Dec.{eqb}
 use borrow.Author.Tests.{eqb-true}
-use Rattle.definitions.specs.Cases.{Case, Holds, ran, said, stream, targetAt, waiting, opened, cases, taken, samples, emptyBuckets, printout}
+use Rattle.definitions.specs.Cases.{Case, Holds, ran, said, stream, targetAt, waiting, opened, repeated, ofOthers, almostFull, cases, taken, samples, emptyBuckets, printout}
 use Rattle.definitions.proofs.Everything.{everything}
 use Rattle.definitions.proofs.Laws.Tests.{and-both}
 
@@ -51,7 +51,7 @@ holds n (List·Memᴰ·head {x} {xs} e) none = rw e (sameNumbers-true (x .given)
 holds n (List·Memᴰ·tail {x} {xs} m) none = holds (suc n) m (rest-same x xs n none)
 
 pub cases-hold : Holds cases
-unfolding everything failing sameNumbers ran said stream targetAt waiting opened cases
+unfolding everything failing sameNumbers ran said stream targetAt waiting opened repeated ofOthers almostFull cases
 cases-hold c m = holds 1 m refl
 
 pub samples-hold : Holds samples

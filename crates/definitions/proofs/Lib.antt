@@ -20,3 +20,5 @@ pub mod Stretches
 pub mod Fairness
 -- the versions that have to break the contract
 pub mod WrongVersions
+-- editions with other numbers of places
+pub mod Editions

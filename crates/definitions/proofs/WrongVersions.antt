@@ -1,6 +1,6 @@
 -- Each wrong version of specs/WrongVersions is shown by a short history, at whose end a call gets another answer. Both answers
 -- are computed, and told apart by a number that they show or by whether they accept. Assumes nothing.
-use Prim.Native.Nat.{ℕ}
+use Prim.Native.Nat.{ℕ, _-_}
 use native.Mathlib.Omega.{arith}
 use mathlib.Core.Path.{_≡_, refl, sym, ap, _∙_}
 use mathlib.Core.Logic.{_≢_}
@@ -8,14 +8,15 @@ use mathlib.Core.List.{List, [], _∷_}
 use lib.ListN.{getD}
 use Rattle.definitions.specs.Event.{Event, Open, Join, Tick}
 use Rattle.definitions.specs.declared.Answer.{Answer}
-use Rattle.definitions.specs.Sizes.{indifferentKind, privateKind}
+use Rattle.definitions.specs.Sizes.{places, indifferentKind, privateKind}
 use Rattle.definitions.specs.State.{Core}
 use Rattle.definitions.specs.Answers.{real, dummy, idle, none, shown, isAccepted}
 use Rattle.definitions.specs.Cases.{arrival, arrivals}
 use Rattle.definitions.specs.History.{History, start, _then_, Scheduler, after, answerAt, scheduler}
 use Rattle.definitions.specs.Sameness.{isTick}
-use Rattle.definitions.specs.Altered.{withTick, slotBy, withArrive, roomLeft, tokenLeft, arriveIf, Unaltered}
-use Rattle.definitions.specs.WrongVersions.{Differs, unsent, alwaysDummy, idleOnceTicked, laterIdle, twoRoomsLeft, fullEarly, moreThanToken, drainedEarly, lowestTurn, lowestId, forgotten, notKept, refusesAll, alwaysNone, AllDiffer}
+use Rattle.definitions.specs.Altered.{withTick, slotBy, withArrive, roomOf, tokenLeft, arriveIf, Unaltered}
+use Rattle.definitions.specs.Editions.{inEdition}
+use Rattle.definitions.specs.WrongVersions.{Differs, unsent, alwaysDummy, idleOnceTicked, laterIdle, fullEarly, moreThanToken, drainedEarly, lowestTurn, lowestId, forgotten, notKept, refusesAll, alwaysNone, AllDiffer}
 use Rattle.definitions.proofs.Laws.Tests.{true-false}
 use Rattle.definitions.proofs.Everything.{everything}
 
@@ -29,7 +30,7 @@ opening cs = followed (start then Open 1024 0 1) cs
 
 -- what the claims below compute with
 unfoldable computed : Type 0
-unfolding everything after answerAt isTick followed opening withTick slotBy withArrive roomLeft tokenLeft arriveIf
+unfolding everything after answerAt isTick followed opening withTick slotBy withArrive roomOf tokenLeft arriveIf
 computed = Unit {0}
 
 -- two answers that show different numbers at some place
@@ -58,11 +59,12 @@ laterIdle-differs =
     told-apart laterIdle (opening (Join 2 privateKind 300 0 ∷ arrival 2 17 64 ∷ arrival 2 18 64 ∷ Tick ∷ [])) Tick 0 idle real
     refl refl (λ e. omega arith)
 
--- 31 packets wait, and there is a place for one more
+-- there is a place for one more
 fullEarly-differs : Differs fullEarly
-unfolding computed twoRoomsLeft shownAt
+unfolding computed inEdition shownAt
 fullEarly-differs =
-    told-apart fullEarly (opening (Join 3 privateKind 100 0 ∷ arrivals 31)) (arrival 3 1 64) 0 14 0 refl refl (λ e. omega arith)
+    told-apart fullEarly (opening (Join 3 privateKind 100 0 ∷ arrivals (places - 1))) (arrival 3 1 64) 0 14 0 refl refl
+    (λ e. omega arith)
 
 -- a tick at rate 1024 fills a bucket of burst 1, and it has one token
 drainedEarly-differs : Differs drainedEarly

@@ -42,9 +42,9 @@ withArrive arrive core (Leave id) = step core (Leave id)
 withArrive arrive core (Load id dummies) = step core (Load id dummies)
 withArrive arrive core Tick = step core Tick
 
--- what checks 14 and 15 ask for
-unfoldable pub roomLeft : State → ℕ → Bool
-roomLeft s id = ltb (length (s .side .stocks id .queue)) places
+-- what checks 14 and 15 ask for, where every id has so many places
+unfoldable pub roomOf : ℕ → State → ℕ → Bool
+roomOf n s id = ltb (length (s .side .stocks id .queue)) n
 
 unfoldable pub tokenLeft : State → ℕ → Bool
 tokenLeft s id = not (isIndifferent (s .clients id .kind)) || leb shares (s .clients id .level)
@@ -70,4 +70,4 @@ withChange change core Tick = step core Tick
 -- With the turn, the room and the token of the definitions, these are the tick and the arrive that they alter.
 pub record Unaltered : Type 0 where
   pub tick : (s : State) → slotBy turn s ≡ onTick s
-  pub arrive : (s : State) (id : ℕ) (p : Packet) → arriveIf roomLeft tokenLeft s id p ≡ onArrive s id p
+  pub arrive : (s : State) (id : ℕ) (p : Packet) → arriveIf (roomOf places) tokenLeft s id p ≡ onArrive s id p

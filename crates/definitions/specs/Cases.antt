@@ -1,12 +1,12 @@
 -- The cases marked P (paper 01, "Cases marked P"), cases of the draw's throws (paper 02, S-1) and of buckets that begin empty
 -- (S-4), and the printout of paper 01's script (paper 01, "Script and printout") as S-4 amends it.
 -- A case is what the definitions give, beside what the paper says. A further case is one more entry of the list.
-use Prim.Native.Nat.{ℕ, zero, suc}
+use Prim.Native.Nat.{ℕ, zero, suc, _+_, _-_, _*_, _/_}
 use mathlib.Core.Path.{_≡_}
 use mathlib.Core.List.{List, [], _∷_, _++_, map, List·Memᴰ}
 use lib.ListN.{length, replicate, take}
 use Rattle.definitions.specs.Event.{Event, Open, Join, Change, Leave, Load, Arrive, Tick}
-use Rattle.definitions.specs.Sizes.{ids, indifferentKind, privateKind, firstCome}
+use Rattle.definitions.specs.Sizes.{ids, places, shares, burstLimit, indifferentKind, privateKind, firstCome}
 use Rattle.definitions.specs.Generator.{stepped}
 use Rattle.definitions.specs.Sample.{sample}
 use Rattle.definitions.specs.Draw.{sumBelow, drawnAt, draw}
@@ -65,9 +65,31 @@ arrival id handle length = Arrive id (record { handle = handle; length = length 
 abbrev pub arrivals : ℕ → List Event
 arrivals n = replicate n (arrival 3 1 64)
 
+-- some calls, n times over
+unfoldable pub repeated : ℕ → List Event → List Event
+repeated zero cs = []
+repeated (suc n) cs = cs ++ repeated n cs
+
 -- n ticks, by which buckets fill
 abbrev pub slots : ℕ → List Event
 slots n = replicate n Tick
+
+-- some calls of each of n others than client 3, from id 4 on
+unfoldable pub ofOthers : ℕ → (ℕ → List Event) → List Event
+ofOthers zero calls = []
+ofOthers (suc n) calls = ofOthers n calls ++ calls (4 + n)
+
+-- For P4, client 3 with one place left and a full bucket, where a bucket may hold fewer packets than a queue: others, enough of
+-- them, hand in a full bucket each before it does. While their packets go out, its own bucket gets nearly a packet a tick.
+unfoldable pub almostFull : Core
+almostFull =
+    let others = places / burstLimit + 2 in
+    let even = shares / suc others in
+    let filled = opened 1024 (Join 3 indifferentKind even 64 ∷ ofOthers others (λ id. Join id indifferentKind even 64 ∷ [])
+    ++ slots (65 * suc others)) in
+    let behind = ran filled (ofOthers others (λ id. replicate 64 (arrival id 1 64) ++ Change id indifferentKind 1 64 ∷ [])
+    ++ Change 3 indifferentKind (shares - others) 64 ∷ []) in
+    ran behind (repeated (places - 1) (arrival 3 1 64 ∷ Tick ∷ []) ++ slots others)
 
 unfoldable pub cases : List Case
 cases =
@@ -81,10 +103,10 @@ cases =
     ∷ (let begun = opened 1024 (Join 3 privateKind 100 0 ∷ []) in
     said begun (arrival 3 1 63 ∷ arrival 3 2 1519 ∷ arrival 3 3 64 ∷ arrival 3 4 1518 ∷ [])
     gives 13 ∷ 13 ∷ 0 ∷ 0 ∷ [])
-    -- P4 "the 32nd waiting packet is accepted; the 33rd gets 14 and takes no token"
-    ∷ (let begun = opened 1024 (Join 3 indifferentKind 1024 64 ∷ slots 64) in
-    said begun (arrivals 33) ++ level (ran begun (arrivals 32)) 3 ∷ level (ran begun (arrivals 33)) 3 ∷ []
-    gives replicate 32 0 ++ 14 ∷ 32768 ∷ 32768 ∷ [])
+    -- P4 "reads 128th and 129th" (S-9): "the 128th waiting packet is accepted; the 129th gets 14 and takes no token"
+    ∷ (let full = ran almostFull (arrivals 1) in
+    waiting almostFull 3 ∷ said almostFull (arrivals 2) ++ level full 3 ∷ level (ran full (arrivals 1)) 3 ∷ []
+    gives (places - 1) ∷ 0 ∷ 14 ∷ 64512 ∷ 64512 ∷ [])
     -- P5 "level 1023: 15; level 1024: accepted, 0 left"
     ∷ (let once = opened 1024 (Join 3 indifferentKind 1023 1 ∷ slots 1) in
     let twice = ran once (slots 1) in
@@ -114,8 +136,8 @@ cases =
     gives 3 ∷ 0 ∷ 3 ∷ 0 ∷ [])
     -- P11 "discipline 0, accepted 3, 7, 3: they leave 3, 7, 3"
     ∷ (let both = opened 1024 (Join 3 indifferentKind 512 2 ∷ Join 7 indifferentKind 512 2 ∷ slots 4) in
-    said (ran both (arrival 3 31 64 ∷ arrival 7 70 65 ∷ arrival 3 32 66 ∷ [])) (slots 3)
-    gives real ∷ 3 ∷ 31 ∷ 64 ∷ 0 ∷ real ∷ 7 ∷ 70 ∷ 65 ∷ 0 ∷ real ∷ 3 ∷ 32 ∷ 66 ∷ 0 ∷ [])
+    said (ran both (arrival 3 33 64 ∷ arrival 7 70 65 ∷ arrival 3 34 66 ∷ [])) (slots 3)
+    gives real ∷ 3 ∷ 33 ∷ 64 ∷ 0 ∷ real ∷ 7 ∷ 70 ∷ 65 ∷ 0 ∷ real ∷ 3 ∷ 34 ∷ 66 ∷ 0 ∷ [])
     -- P12 "join of an active id with type 9: 6"
     ∷ (said (opened 1024 (Join 3 privateKind 100 0 ∷ [])) (Join 3 9 100 0 ∷ [])
     gives 6 ∷ [])
@@ -154,7 +176,7 @@ emptyBuckets =
     ∷ (let full = opened 1024 (Join 3 indifferentKind 1024 2 ∷ slots 2) in
     let back = ran full (Change 3 privateKind 1024 0 ∷ Change 3 indifferentKind 300 2 ∷ []) in
     level full 3 ∷ level back 3 ∷ said back (arrivals 1) ++ said (ran back (slots 4)) (arrivals 2)
-    gives 2048 ∷ 0 ∷ 15 ∷ 0 ∷ 15 ∷ [])
+    gives (2 * shares) ∷ 0 ∷ 15 ∷ 0 ∷ 15 ∷ [])
     -- and behind a leave and a join
     ∷ (let full = opened 1024 (Join 3 indifferentKind 1024 2 ∷ slots 2) in
     level (ran full (Leave 3 ∷ Join 3 indifferentKind 1024 2 ∷ [])) 3 ∷ []
@@ -163,7 +185,7 @@ emptyBuckets =
     ∷ (let full = opened 1024 (Join 3 indifferentKind 1024 2 ∷ slots 2) in
     let kept = ran full (Change 3 indifferentKind 1 64 ∷ []) in
     level kept 3 ∷ level (ran full (Change 3 indifferentKind 1 1 ∷ [])) 3 ∷ said kept (arrivals 3)
-    gives 2048 ∷ 1024 ∷ 0 ∷ 0 ∷ 15 ∷ [])
+    gives (2 * shares) ∷ 1024 ∷ 0 ∷ 0 ∷ 15 ∷ [])
     ∷ []
 
 -- the script of the paper, line by line

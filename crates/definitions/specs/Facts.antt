@@ -109,8 +109,8 @@ pub record ChangeFacts : Type 0 where
 
 -- the order of the checks, and refusals
 pub record CheckFacts : Type 0 where
-  -- "32 packets wait already; the packet is dropped": 14 comes before 15 and takes no token; whatever the level,
-  -- the core is as it was.
+  -- ".. packets wait already; the packet is dropped": 14 comes before 15 and takes no token; whatever the level, the core is
+  -- as it was.
   pub arrive-full : (s : State) (id : ℕ) (p : Packet)
       → ltb id ids ≡ true
       → isActive (s .clients id .kind) ≡ true

@@ -4,9 +4,13 @@
 use Prim.Native.Nat.{ℕ, _*_, _/_, _%_, _^_}
 use lib.Bits.{bitXor}
 
--- v xor (v shifted left by k, in 32 bits)
+-- "the 32-bit value v"
+abbrev pub valueBits : ℕ
+valueBits = 32
+
+-- v xor (v shifted left by k, high bits lost)
 unfoldable pub xorLeft : ℕ → ℕ → ℕ
-xorLeft k v = bitXor v (v * 2 ^ k % 2 ^ 32)
+xorLeft k v = bitXor v (v * 2 ^ k % 2 ^ valueBits)
 
 -- v xor (v shifted right by k)
 unfoldable pub xorRight : ℕ → ℕ → ℕ

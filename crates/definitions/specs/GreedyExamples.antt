@@ -1,6 +1,6 @@
 -- That there are greedy clients, and why S-10 (paper 02) has its conditions: where one of them is not met, fewer packets may be
 -- accepted than were bought. All are computed. Client 3 is the one that offers.
-use Prim.Native.Nat.{ℕ, zero, suc, _<_}
+use Prim.Native.Nat.{ℕ, zero, suc, _*_, _<_}
 use mathlib.Core.Path.{_≡_}
 use mathlib.Core.Bool.{Bool, true, false, not}
 use mathlib.Core.List.{List, [], _∷_}
@@ -49,7 +49,7 @@ among h =
     h then Join 7 indifferentKind 100 1 then Open 0 firstCome 1 then Join 3 indifferentKind 1 1 then arrival 3 5 63
     then offer then arrival 2 8 64 then offer then Load 2 1 then arrival 7 9 64 then offer
 
--- Client 3, with a bucket of 2048 at first and a rate of 700, is greedy over n ticks, and so many of its packets are accepted.
+-- Client 3, with two packets' tokens at first and a rate of 700, is greedy over n ticks, and so many of its packets are accepted.
 pub record GreedyOver (n accepted : ℕ) : Type 0 where
   pub greedy : Greedy 3 (clientOf (joined 700 2) 3) (stretch (joined 700 2) (offeredOver among n))
   pub ticked : ticks (stretch (joined 700 2) (offeredOver among n)) ≡ n
@@ -57,7 +57,7 @@ pub record GreedyOver (n accepted : ℕ) : Type 0 where
 
 -- there are such stretches, for several n
 pub record GreedyThere : Type 0 where
-  pub filled : clientOf (joined 700 2) 3 .level ≡ 2048
+  pub filled : clientOf (joined 700 2) 3 .level ≡ 2 * shares
   pub over0 : GreedyOver 0 2
   pub over1 : GreedyOver 1 2
   pub over2 : GreedyOver 2 3
@@ -107,10 +107,10 @@ pub record GreedyNeeded : Type 0 where
   -- or it does so at the end
   pub last : Fewer (joined 1000 2) (start then offer) (true ∷ false ∷ true ∷ true ∷ [])
   -- every offering ends with 14: as many packets wait as there are places
-  pub full : Fewer (sole 512 2 2048 places) (offeredOver thrice 1) (true ∷ false ∷ false ∷ true ∷ [])
-  pub untilFull : T (offersUntil 3 14 (stretch (sole 512 2 2048 places) (offeredOver thrice 1)))
+  pub full : Fewer (sole 512 2 (2 * shares) places) (offeredOver thrice 1) (true ∷ false ∷ false ∷ true ∷ [])
+  pub untilFull : T (offersUntil 3 14 (stretch (sole 512 2 (2 * shares) places) (offeredOver thrice 1)))
   -- from a core within the limits
-  pub fullWithin : CoreLimits (sole 512 2 2048 places)
+  pub fullWithin : CoreLimits (sole 512 2 (2 * shares) places)
   -- it changes to a lower rate
   pub changed : Fewer (joined 1000 2) (thrice (thrice (thrice (start then Change 3 indifferentKind 1 2) then Tick) then Tick))
       (true ∷ true ∷ true ∷ false ∷ [])

@@ -41,5 +41,6 @@ pub mod FairExamples
 pub mod Facts
 -- what the claims rule out
 pub mod Altered
+pub mod Editions
 pub mod Leaks
 pub mod WrongVersions

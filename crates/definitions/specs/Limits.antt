@@ -45,7 +45,7 @@ LimitsBy private c = PrivateLimits c
 abbrev pub ClientLimits : Client → Type 0
 ClientLimits c = LimitsBy (c .kind) c
 
--- "32 for each of the 64 ids"
+-- "No id uses another's places": no more packets wait than it has
 pub record QueueLimits (queue : List Packet) : Type 0 where
   pub queueHigh : length queue ≤ places
   pub queueLengths : LengthsFit queue

@@ -13,9 +13,9 @@ handleLimit = 4294967295
 unfoldable pub ids : ℕ
 ids = 64
 
--- "2,048 places, 32 for each of the 64 ids"
+-- "Every id now has 128 places" (paper 02, S-9). The code has the number as PLACES, and no other file names it.
 unfoldable pub places : ℕ
-places = 32
+places = 128
 
 -- "a pool, a count of dummies from 0 to 255"
 unfoldable pub poolLimit : ℕ

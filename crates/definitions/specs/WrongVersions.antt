@@ -1,11 +1,10 @@
 -- The versions that "have to break the contract" (paper 01, "Conditions of acceptance"), each written down as a scheduler that
 -- deals in that wrong way with the calls that it is about, and with all others as they are defined. `AllDiffer` claims of each
 -- that some history shows it: a call behind it gets another answer than the calls define.
-use Prim.Native.Nat.{ℕ, suc}
+use Prim.Native.Nat.{ℕ, _-_}
 use mathlib.Core.Logic.{_≢_}
 use mathlib.Core.Bool.{Bool, false, cond, not, _||_}
 use lib.Dec.{ltb}
-use lib.ListN.{length}
 use Rattle.definitions.specs.declared.Packet.{Packet}
 use Rattle.definitions.specs.declared.Outcome.{Outcome}
 use Rattle.definitions.specs.declared.Outcome.the-variants.{Dummy, Idle, None}
@@ -22,7 +21,8 @@ use Rattle.definitions.specs.Tick.{Rule, rule1, rule2, rule3, Turn, with
 use Rattle.definitions.specs.Core.{step}
 use Rattle.definitions.specs.History.{History, Scheduler, answerAt, pickOf, drawsOf, holdingsOf, schedulerBy, scheduler}
 use Rattle.definitions.specs.Sameness.{isTick}
-use Rattle.definitions.specs.Altered.{withTick, byTurn, withArrive, roomLeft, tokenLeft, arriveIf}
+use Rattle.definitions.specs.Altered.{withTick, byTurn, withArrive, roomOf, arriveIf}
+use Rattle.definitions.specs.Editions.{edition}
 
 -- a history, and a call behind it that gets another answer than the calls define
 pub record Differs (S : Scheduler) : Type 0 where
@@ -62,17 +62,14 @@ laterIdle = record {
 }
 
 -- "14 or 15 with places and tokens left": the last place is not given, or the last token
-unfoldable pub twoRoomsLeft : State → ℕ → Bool
-twoRoomsLeft s id = ltb (suc (length (s .side .stocks id .queue))) places
-
 abbrev pub fullEarly : Scheduler
-fullEarly = schedulerBy (withArrive (arriveIf twoRoomsLeft tokenLeft)) turn
+fullEarly = edition (places - 1)
 
 unfoldable pub moreThanToken : State → ℕ → Bool
 moreThanToken s id = not (isIndifferent (s .clients id .kind)) || ltb shares (s .clients id .level)
 
 abbrev pub drainedEarly : Scheduler
-drainedEarly = schedulerBy (withArrive (arriveIf roomLeft moreThanToken)) turn
+drainedEarly = schedulerBy (withArrive (arriveIf (roomOf places) moreThanToken)) turn
 
 -- "each slot given to the lowest id" of those that its rule is about
 abbrev pub concerns : Rule → Client → Stock → Bool

@@ -9,7 +9,7 @@ pub const HANDLE_LIMIT: u64 = 4294967295;
 // How many ids there are, and how many places each has.
 pub const IDS: u32 = 64;
 
-pub const PLACES: u32 = 32;
+pub const PLACES: u32 = 128;
 
 // The shares of the link. A packet costs a bucket as many, and a burst is counted in them.
 pub const SHARES: u32 = 1024;

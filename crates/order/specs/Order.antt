@@ -10,7 +10,7 @@ use lib.Dec.{eqb}
 use lib.ListN.{length, getD, set}
 use Rattle.definitions.specs.Sizes.{ids, places}
 
--- "2,048 places, 32 for each of the 64 ids"; the node behind the last place is the sentinel
+-- the places of all ids; the node behind the last place is the sentinel
 unfoldable pub sentinel : ℕ
 sentinel = ids * places
 

@@ -6,7 +6,7 @@ use mathlib.Core.List.{List, [], _∷_}
 use lib.Dec.{eqb}
 use Rattle.definitions.specs.Sizes.{places}
 
--- "32 for each of the 64 ids"
+-- whose place it is: each id's stand together, by rising id
 unfoldable pub owner : ℕ → ℕ
 owner place = place / places
 

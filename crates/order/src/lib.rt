@@ -1,4 +1,4 @@
-// The order in which the waiting packets of indifferent clients were accepted: a circular doubly linked list over the 2,048 places
+// The order in which the waiting packets of indifferent clients were accepted: a circular doubly linked list over all places
 // with one sentinel, in one table that is lent. Every operation costs the same however many packets wait, and writes no packet.
 use definitions::IDS;
 use definitions::PLACES;

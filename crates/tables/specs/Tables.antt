@@ -1,5 +1,5 @@
--- The tables of the core (paper 01: "2,048 places, 32 for each of the 64 ids": "an array [0; 2048] of handles and one of
--- lengths"). What a client has once, its terms, is one table, and what it has to send, its stock, is another; each has several
+-- The tables of the core (paper 01: "an array .. of handles and one of lengths, filled at opening"), with an entry for each place
+-- of each id. What a client has once, its terms, is one table, and what it has to send, its stock, is another; each has several
 -- numbers for each id, one column after the other.
 use Prim.Native.Nat.{ℕ, zero, suc, _+_, _*_, _%_}
 use mathlib.Core.List.{List, [], _∷_}

@@ -1,5 +1,5 @@
 -- The examples of specs/GreedyExamples, computed. Assumes nothing.
-use Prim.Native.Nat.{ℕ, zero, suc, _≤_}
+use Prim.Native.Nat.{ℕ, zero, suc, _*_, _≤_}
 use mathlib.Core.Path.{_≡_, refl, sym, ap, _∙_}
 use mathlib.Core.Bool.{Bool, true, false, cond}
 use native.Mathlib.Omega.{arith}
@@ -69,7 +69,7 @@ unfolding shortest longest
 lengths-replicate zero = tt
 lengths-replicate (suc n) = (lit≤ tt, lit≤ tt, lengths-replicate n)
 
-sole-limits : (n : ℕ) → n ≤ places → CoreLimits (sole 512 2 2048 n)
+sole-limits : (n : ℕ) → n ≤ places → CoreLimits (sole 512 2 (2 * shares) n)
 unfolding ids shares burstLimit weightedDraw firstCome put sumBelow rates activeRate ordered sole
 sole-limits n room = record {
   thresholdLow = lit≤ tt;
@@ -102,7 +102,7 @@ sole-limits n room = record {
 }
   where
     client : Client
-    client = record { kind = indifferent; rate = 512; burst = 2; level = 2048 }
+    client = record { kind = indifferent; rate = 512; burst = 2; level = 2 * shares }
 
     stock : Stock
     stock = record { queue = replicate n (record { handle = 1; length = 64 }); pool = 0 }

@@ -102,7 +102,7 @@ module _ (core : Core) (a : Alone core) where
   unfolding isSetting
   ticked = alone-on core Tick tt a
 
-  tick-level : (level : ℕ) → clientOf core 3 .level ≡ level → level + 512 ≤ 2048
+  tick-level : (level : ℕ) → clientOf core 3 .level ≡ level → level + 512 ≤ 2 * shares
       → clientOf (step core Tick .core) 3 .level ≡ level + 512
   unfolding isSetting isTick isOffer isArrival spill shares
   tick-level level e room = omega (arith, moved core Tick tt a .level, a .rate, a .burst)
