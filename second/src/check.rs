@@ -2,12 +2,16 @@
 //! the figure of S-14, the grammar of the script and the calls of a long run. Expected values are
 //! the papers' own; the seeds and values of S-1's draws and the figures of S-14 were reckoned apart
 //! from this program. "A bucket now begins at level 0" (paper 02, S-4): a case that needs tokens
-//! waits for them first.
+//! waits for them first. "Every id now has 128 places" (S-9): the checks hold for whatever number
+//! the edition has, from 3 to 128, and what was reckoned for one of them says so.
 
 use crate::core::{even_draw, xorshift32, Answer, Call, Core, Draw, Opened, Outcome, INDIFFERENT,
-                  PRIVATE};
+                  PLACES, PRIVATE};
 use crate::maker::{call, Maker, Time};
 use crate::script::{number, parse, run, sure, Line};
+
+/// As many packets as an id has places.
+pub const FULL: u32 = PLACES as u32;
 
 fn printed(text: &str) -> String {
     String::from_utf8(run(text.as_bytes())).unwrap()
@@ -45,6 +49,11 @@ pub fn opened(core: &Core) -> &Opened {
 
 pub fn level(core: &Core, id: usize) -> u32 {
     opened(core).clients[id].as_ref().unwrap().level
+}
+
+/// The number of a client's packets that wait.
+fn waiting(core: &Core, id: usize) -> u32 {
+    opened(core).clients[id].as_ref().unwrap().queue.len() as u32
 }
 
 pub fn ticks(core: &mut Core, times: u32) {
@@ -134,18 +143,49 @@ fn p3_lengths() {
     assert_eq!(arrive(&mut core, 0, 1, 1518), Answer::Accepted);
 }
 
+/// Client 9, behind packets of others, offers what it can, and again behind each tick, until it
+/// meets 14; how many ticks.
+fn ticks_to_14(core: &mut Core) -> u32 {
+    for n in 0..FULL {
+        if offer(core, FULL + 1).1 == 14 {
+            return n;
+        }
+        core.perform(&Call::Tick);
+    }
+    panic!("every place is taken before a packet of it goes")
+}
+
+/// S-9: "P4 reads 128th and 129th." A bucket has 64 tokens at most, so that client 9 waits behind
+/// packets of others and offers what 1022 shares bring it. With 128 places it takes 65 ticks: of
+/// 65536 + 65 × 1022 = 131966 the 128 packets take all but 894. With 32 it has them at once, and 32
+/// tokens are left. One packet more gets 14 and "takes no token", whatever level the ticks bring,
+/// until the first one goes, behind the last of the others.
 #[test]
 fn p4_places() {
-    let mut core = Core::new();
-    open(&mut core, 1024, 0, 1);
-    join(&mut core, 0, INDIFFERENT, 1024, 64);
-    fill(&mut core, 0);
-    for handle in 1..=32 {
-        assert_eq!(arrive(&mut core, 0, handle, 64), Answer::Accepted);
+    let mut core = core_behind([3, 4, 9], 64, true);
+    let n = ticks_to_14(&mut core);
+    let left = 65536 + n * 1022 - FULL * 1024;
+    assert!(PLACES != 128 || (n, left) == (65, 894));
+    assert!(PLACES != 32 || (n, left) == (0, 32768));
+    for more in 0..=FULL - n {
+        assert_eq!((waiting(&core, 9), level(&core, 9)), (FULL, left + more * 1022));
+        assert_eq!(arrive(&mut core, 9, FULL, 64), Answer::Refused(14));
+        assert_eq!((waiting(&core, 9), level(&core, 9)), (FULL, left + more * 1022));
+        core.perform(&Call::Tick);
     }
-    assert_eq!(level(&core, 0), 32 * 1024);
-    assert_eq!(arrive(&mut core, 0, 33, 64), Answer::Refused(14));
-    assert_eq!(level(&core, 0), 32 * 1024);
+    assert_eq!((waiting(&core, 9), level(&core, 9)), (FULL - 1, 65536)); // full again
+    assert_eq!(arrive(&mut core, 9, FULL, 64), Answer::Accepted);
+    assert_eq!(arrive(&mut core, 9, FULL + 1, 64), Answer::Refused(14));
+    assert_eq!((waiting(&core, 9), level(&core, 9)), (FULL, 63 * 1024));
+}
+
+/// P4 of a private client, which has no tokens.
+#[test]
+fn p4_private() {
+    let mut core = core_of(&[(0, PRIVATE, 1024, 0)]);
+    arrive_times(&mut core, 0, FULL);
+    assert_eq!(arrive(&mut core, 0, FULL, 64), Answer::Refused(14));
+    assert_eq!(waiting(&core, 0), FULL);
 }
 
 #[test]
@@ -619,61 +659,106 @@ fn s10_burst_1() {
     assert_eq!(bought(0, 1023, 3), [0, 0, 1, 2]); // where 0, 0, 1, 1 are accepted
 }
 
-/// "never meeting 14": before the first tick, of 33 bought only 32 have a place; of none bought
-/// none needs one.
-#[test]
-fn s10_meets_14_at_once() {
-    let mut core = core_with_full_9(0, 1024, 33);
-    let result = stretch(&mut core, 0, 99, no_others);
-    assert!(result.met_14);
-    assert_eq!(result.accepted, [32]);
-    assert_eq!(bought(33 * 1024, 1024, 0), [33]);
-    let mut core = core_with_9(0, 1024, 33);
-    let result = stretch(&mut core, 0, 99, no_others);
-    assert!(!result.met_14);
-    assert_eq!(result.accepted, [0]);
-}
-
-/// Client 9 of burst 2 at rate 1023 behind 32 packets of client 3, which had its tokens at rate
-/// 1024 and kept them when it changed to 1.
-fn core_behind_32() -> Core {
-    let mut core = core_of(&[(3, INDIFFERENT, 1024, 64)]);
-    fill(&mut core, 3);
-    change(&mut core, 3, INDIFFERENT, 1, 64);
-    assert_eq!(join(&mut core, 9, INDIFFERENT, 1023, 2), Answer::Accepted);
+/// An indifferent client of rate 1022, the last of the three ids, behind as many packets of the two
+/// others as an id has places. These had their tokens at rate 512 each and kept them when they
+/// changed to 1. The bucket of the third is full, or empty as it began. No packet of it waits.
+fn core_behind(ids: [u32; 3], burst: u32, full: bool) -> Core {
+    let [first, second, last] = ids;
+    let mut core = core_of(&[(first, INDIFFERENT, 512, 64), (second, INDIFFERENT, 512, 64)]);
+    ticks(&mut core, 128); // 64 tokens each
+    change(&mut core, first, INDIFFERENT, 1, 64);
+    change(&mut core, second, INDIFFERENT, 1, 64);
+    assert_eq!(join(&mut core, last, INDIFFERENT, 1022, burst), Answer::Accepted);
+    if full {
+        fill(&mut core, last as usize);
+    }
+    arrive_times(&mut core, first, FULL / 2);
+    arrive_times(&mut core, second, FULL - FULL / 2);
     core
 }
 
-/// Behind 32 packets of another client a burst of 2 is enough to meet 14: after tick 31 client 9
-/// has 32 waiting and gets 14, though its level is below 1024 too ("Checks run down the table").
-/// What it got is exact up to there, and one short after ticks 32 and 33.
+/// The same with so many packets of the third waiting, 2 at least, before any of them goes. With
+/// burst 2 and a full bucket two are accepted before the first tick, none behind it, and one behind
+/// each later one. That is one tick less than packets, and each takes two from a level of 1024. Of
+/// the others' packets one more is left than the third has places left.
+pub fn core_with_waiting(ids: [u32; 3], packets: u32) -> Core {
+    let id = ids[2];
+    let mut core = core_behind(ids, 2, true);
+    arrive_times(&mut core, id, 2);
+    core.perform(&Call::Tick);
+    for handle in 2..packets {
+        core.perform(&Call::Tick);
+        assert_eq!(arrive(&mut core, id, handle, 64), Answer::Accepted);
+    }
+    let left = 1024 - 2 * (packets - 1);
+    assert_eq!((waiting(&core, id as usize), level(&core, id as usize)), (packets, left));
+    let of_others = waiting(&core, ids[0] as usize) + waiting(&core, ids[1] as usize);
+    assert_eq!(of_others, FULL - packets + 1);
+    core
+}
+
+/// "never meeting 14": before the first tick. With one place left and no token none is bought that
+/// needs it, and 15 comes. With one place left and two tokens one of two bought has a place, and 14
+/// comes. With no place left it is 14, though no token is there either ("Checks run down the
+/// table").
+#[test]
+fn s10_meets_14_at_once() {
+    let mut core = core_with_waiting([3, 4, 9], FULL - 1);
+    let result = stretch(&mut core.clone(), 0, 99, no_others);
+    assert!(!result.met_14);
+    assert_eq!(result.accepted, [0]);
+    ticks(&mut core, 2); // the last two of the others
+    assert_eq!(level(&core, 9), 2048);
+    let result = stretch(&mut core, 0, 99, no_others);
+    assert!(result.met_14);
+    assert_eq!(result.accepted, [1]);
+    assert_eq!(bought(2048, 1022, 0), [2]);
+    let mut core = core_with_waiting([3, 4, 9], FULL);
+    assert!(level(&core, 9) < 1024);
+    let result = stretch(&mut core, 0, 99, no_others);
+    assert!(result.met_14);
+    assert_eq!(result.accepted, [0]);
+}
+
+/// Behind as many packets of others as it has places a burst of 2 is enough to meet 14. With 128
+/// places: after tick 127 client 9 has 128 waiting and gets 14, though its level is below 1024 too
+/// ("Checks run down the table"). What it got is exact up to there, and one short after ticks 128
+/// and 129.
 #[test]
 fn s10_meets_14_later() {
-    for length in [30, 31, 33] {
-        let mut core = core_behind_32();
-        fill(&mut core, 9);
-        arrive_times(&mut core, 3, 32);
+    for length in [FULL - 2, FULL - 1, FULL + 1] {
+        let mut core = core_behind([3, 4, 9], 2, true);
         let result = stretch(&mut core, length, 9, no_others);
-        assert_eq!(result.met_14, length > 30);
-        let mut wanted = bought(2048, 1023, 33);
-        assert_eq!(wanted[30..], [31, 32, 33, 34]);
-        wanted[32..].copy_from_slice(&[32, 33]);
+        assert_eq!(result.met_14, length > FULL - 2);
+        let mut wanted = bought(2048, 1022, FULL + 1);
+        assert_eq!(wanted[PLACES - 2..], [FULL - 1, FULL, FULL + 1, FULL + 2]);
+        wanted[PLACES..].copy_from_slice(&[FULL, FULL + 1]);
         assert_eq!(result.accepted, wanted[..=length as usize]);
     }
 }
 
-/// With a bucket that starts empty client 9 has 31 waiting behind the other's last packet, and
-/// never more: what it got is exact.
+/// With a bucket that starts empty client 9 has one place left behind the others' last packet, and
+/// one at least from then on: what it got is exact.
 #[test]
 fn s10_never_meets_14() {
-    let mut core = core_behind_32();
-    arrive_times(&mut core, 3, 32);
+    let mut core = core_behind([3, 4, 9], 2, false);
     assert_eq!(level(&core, 9), 0);
-    let result = stretch(&mut core, 300, 9, no_others);
+    let result = stretch(&mut core, 500, 9, no_others);
     assert!(!result.met_14);
-    let wanted = bought(0, 1023, 300);
-    assert_eq!(wanted[30..34], [29, 30, 31, 32]);
+    let wanted = bought(0, 1022, 500);
+    assert_eq!(wanted[PLACES - 2..PLACES + 2], [FULL - 3, FULL - 2, FULL - 1, FULL]);
     assert_eq!(result.accepted, wanted);
+}
+
+/// Nor does it with a full bucket behind two packets less: one place is left behind the others'
+/// last one, and is taken after the tick that sends the first of client 9.
+#[test]
+fn s10_just_no_14() {
+    let mut core = core_behind([3, 4, 9], 2, true);
+    ticks(&mut core, 2);
+    let result = stretch(&mut core, 500, 9, no_others);
+    assert!(!result.met_14);
+    assert_eq!(result.accepted, bought(2048, 1022, 500));
 }
 
 /// "until it is refused 15": one that stops after one packet each time is one behind at rate 1024,
@@ -756,7 +841,7 @@ fn s14_private_only() {
     let every = [(0, 0), (1, 1), (1000, 1000), (4294967295, 4294967295)];
     assert_sure(&core_of(&[(63, PRIVATE, 1, 0)]), &every);
     let mut core = core_of(&[(0, PRIVATE, 1000, 0), (5, PRIVATE, 24, 0)]);
-    arrive_times(&mut core, 0, 32);
+    arrive_times(&mut core, 0, FULL);
     load(&mut core, 5, 255);
     assert_sure(&core, &every);
 }
@@ -779,10 +864,11 @@ fn s14_one_indifferent_client() {
     assert_sure(&core, &[(0, 0), (1, 1), (4, 4), (5, 4), (6, 5), (9, 8), (10, 8), (1000, 805)]);
 }
 
-/// Rates 300 and 700 with 2 and 4 waiting and levels of 1024 each. For n = 1000 they are accepted
-/// at most 293 and 684 times, each rounded down (in one sum it would be 978), and 17 are left. The
-/// demand passes n for small n; it is n itself for 338, though it is one less than n for 337. With
-/// nothing waiting and both buckets empty it is 292 and 683 for n = 1000, and 25 are left.
+/// Rates 300 and 700 with 2 and 3 waiting and levels of 1024 and 2048. For n = 1000 they are
+/// accepted at most 293 and 685 times, each rounded down (in one sum it would be 979), and 17 are
+/// left. The demand passes n for small n; it is n itself for 338, though it is one less than n for
+/// 337. With nothing waiting and both buckets empty it is 292 and 683 for n = 1000, and 25 are
+/// left.
 #[test]
 fn s14_two_indifferent_clients() {
     let mut core =
@@ -791,15 +877,15 @@ fn s14_two_indifferent_clients() {
     fill(&mut core, 4);
     assert_eq!([level(&core, 4), level(&core, 8)], [3072, 5120]);
     arrive_times(&mut core, 4, 2);
-    arrive_times(&mut core, 8, 4);
-    assert_eq!([level(&core, 4), level(&core, 8)], [1024, 1024]);
+    arrive_times(&mut core, 8, 3);
+    assert_eq!([level(&core, 4), level(&core, 8)], [1024, 2048]);
     assert_sure(&core, &[(0, 0), (1, 0), (8, 0), (100, 0), (335, 0), (336, 1), (337, 1), (338, 0),
                          (339, 1), (1000, 17)]);
 }
 
 /// n × rate passes 32 bits. 4294967295 × 1023 is 4393751542785; a 1024th of it is 4290772991. With
-/// a level of 1024 it is one more, with 65536 it is 4290773055, and so it is for 32 waiting and a
-/// level of 32768.
+/// a level of 1024 it is one more, with 65536 it is 4290773055, and so it is with packets waiting
+/// that took their tokens from it: all 64 of them, if there are so many places.
 #[test]
 fn s14_past_32_bits() {
     let n = 4294967295;
@@ -811,12 +897,15 @@ fn s14_past_32_bits() {
     assert_sure(&core, &[(n, 4194304)]);
     fill(&mut core, 1);
     assert_sure(&core, &[(n, 4194240)]);
-    arrive_times(&mut core, 1, 32);
-    assert_sure(&core, &[(n, 4194240)]);
+    for _ in 0..FULL.min(64) {
+        arrive_times(&mut core, 1, 1);
+        assert_sure(&core, &[(n, 4194240)]);
+    }
 }
 
-/// 63 clients of rate 16. With empty buckets each may have 67108863 accepted in 4294967295 ticks;
-/// with 32 waiting and 32768 each may have 67108895.
+/// 63 clients of rate 16. With empty buckets each may have 67108863 accepted in 4294967295 ticks,
+/// and with full ones 67108927, or as many less as wait already and took their tokens from it: all
+/// 64, if there are so many places.
 #[test]
 fn s14_many_indifferent_clients() {
     let n = 4294967295;
@@ -827,11 +916,34 @@ fn s14_many_indifferent_clients() {
     assert_sure(&core, &[(n, 67108926)]); // 4294967295 - 63 × 67108863
     assert_sure(&core, &[(63, 63), (64, 1), (300000, 4719)]); // 300000 - 63 × 4687
     fill(&mut core, 0);
-    for id in 0..63 {
-        arrive_times(&mut core, id, 32);
+    for _ in 0..FULL.min(64) {
+        assert_sure(&core, &[(n, 67104894)]); // 4294967295 - 63 × 67108927
+        assert_sure(&core, &[(4032, 0), (300000, 687)]); // 300000 - 63 × 4751
+        (0..63).for_each(|id| arrive_times(&mut core, id, 1));
     }
-    assert_sure(&core, &[(n, 67104894)]); // 4294967295 - 63 × 32 - 63 × 67108895
-    assert_sure(&core, &[(4032, 0), (300000, 687)]); // 300000 - 63 × 32 - 63 × 4719
+    assert_sure(&core, &[(n, 67104894), (4032, 0), (300000, 687)]);
+}
+
+/// A full queue. With 128 places client 9 has 128 waiting and a level of 770, one of the others has
+/// one waiting, and they have a level of 127 each. Then 9 changes to rate 1000, which keeps what it
+/// has, and 1 joins. For 10000 ticks that is 129 waiting, 9766 for 9 (10000770 / 1024) and 9 for
+/// each other (10127 / 1024). With fewer places the others have a token left for each packet that
+/// does not wait, and the figures are the same.
+#[test]
+fn s14_full_queue() {
+    let mut core = core_with_waiting([3, 4, 9], FULL);
+    let levels = [3, 4, 9].map(|id| level(&core, id));
+    assert!(PLACES != 128 || levels == [127, 127, 770]);
+    assert_eq!([3, 4, 9].map(|id| waiting(&core, id)), [0, 1, FULL]);
+    change(&mut core, 9, INDIFFERENT, 1000, 64);
+    assert_sure(&core, &[(10000, 0)]);
+    assert_eq!(join(&mut core, 1, PRIVATE, 22, 0), Answer::Accepted);
+    // 4000000000 is 1024 × 3906250: 129, 3906250000 and twice 3906250 of it are not sure.
+    let figures = [(0, 0), (129, 0), (1000, 0), (10000, 87), (4000000000, 85937371)];
+    assert_sure(&core, &figures);
+    // Refused with 14: nothing changes.
+    assert_eq!(arrive(&mut core, 9, 1, 64), Answer::Refused(14));
+    assert_sure(&core, &figures);
 }
 
 /// "Otherwise, if a private client is active": which slots go by rule 2, and who is private.
@@ -973,6 +1085,15 @@ fn chance_core(chance: &mut Chance) -> Core {
     core
 }
 
+/// A core with a queue that is full or nearly so, that of indifferent client 4. Of the packets
+/// before its own some are left, its rate is no longer so large, and client 5 is private.
+fn chance_full_core(chance: &mut Chance) -> Core {
+    let mut core = core_with_waiting([0, 1, 4], (FULL - chance.below(3)).max(2));
+    change(&mut core, 4, INDIFFERENT, 1 + chance.below(1000), 2 + chance.below(63));
+    assert_eq!(join(&mut core, 5, PRIVATE, 1 + chance.below(20), 0), Answer::Accepted);
+    core
+}
+
 /// A call that S-14's stretch may have beside its ticks: an arrival, a load, or an open, join,
 /// change or leave that is refused. Ids 0 and 1 are active, so that a rate of 1024 gets 10.
 fn chance_call(core: &mut Core, chance: &mut Chance) -> Answer {
@@ -993,14 +1114,20 @@ fn chance_call(core: &mut Core, chance: &mut Chance) -> Answer {
 }
 
 /// The indifferent clients' arrivals before a tick: none, one of some client, or, for greed 2, from
-/// each as many as it is granted.
-fn chance_arrivals(core: &mut Core, greed: u32, chance: &mut Chance) {
+/// each as many as it is granted. Whether one of these was refused with 14 for all its greed.
+fn chance_arrivals(core: &mut Core, greed: u32, chance: &mut Chance) -> bool {
     if greed == 1 {
         arrive(core, chance.below(6), 1, 64);
     }
+    let mut met_14 = false;
     for id in 0..6 {
-        while greed == 2 && !core.is_private(id) && arrive(core, id, 1, 64) == Answer::Accepted {}
+        let mut answer = Answer::Accepted;
+        while greed == 2 && !core.is_private(id) && answer == Answer::Accepted {
+            answer = arrive(core, id, 1, 64);
+            met_14 |= answer == Answer::Refused(14);
+        }
     }
+    met_14
 }
 
 /// Whether the outcome bears the id of a private client: in a stretch without a change of type this
@@ -1016,23 +1143,30 @@ fn private_outcome(core: &Core, answer: &Answer) -> bool {
     }
 }
 
-/// A stretch of n ticks: the figure at its start, and the picks counted. Of each part of it that
-/// starts with it the same is promised.
-fn chance_stretch(core: &mut Core, n: u32, greed: u32, chance: &mut Chance) -> (u32, u32) {
+/// What a stretch gave: the figure at its start, the picks counted, and whether an indifferent
+/// client that wanted all it could get met 14.
+struct Picks {
+    figure: u32,
+    picks: u32,
+    met_14: bool,
+}
+
+/// A stretch of n ticks. Of each part of it that starts with it the same is promised.
+fn chance_stretch(core: &mut Core, n: u32, greed: u32, chance: &mut Chance) -> Picks {
     let start = core.clone();
-    let mut picks = 0;
+    let (mut picks, mut met_14) = (0, false);
     for ticks in 1..=n {
         for _ in 0..chance.below(3) {
             chance_call(core, chance);
         }
-        chance_arrivals(core, greed, chance);
+        met_14 |= chance_arrivals(core, greed, chance);
         let picked = core.picks_private();
         let answer = core.perform(&Call::Tick);
         assert_eq!(private_outcome(core, &answer), picked);
         picks += u32::from(picked);
         assert!(picks >= start.sure_picks(ticks).unwrap());
     }
-    (start.sure_picks(n).unwrap(), picks)
+    Picks { figure: start.sure_picks(n).unwrap(), picks, met_14 }
 }
 
 /// S-14: "private clients together are picked at least" so often; at times just so often, and at
@@ -1044,7 +1178,8 @@ fn s14_stretches() {
     for count in 0..3000 {
         let mut core = chance_core(&mut chance);
         let n = chance.below([5, 50, 150][count % 3]);
-        let (figure, picks) = chance_stretch(&mut core, n, chance.below(3), &mut chance);
+        let Picks { figure, picks, .. } =
+            chance_stretch(&mut core, n, chance.below(3), &mut chance);
         just += u32::from(figure > 0 && picks == figure);
         more += u32::from(figure > 0 && picks > figure);
         nobody += u32::from(n > 0 && (0..64).all(|id| !core.is_private(id)));
@@ -1052,14 +1187,96 @@ fn s14_stretches() {
     assert!(just > 100 && more > 100 && nobody > 100, "{} {} {}", just, more, nobody);
 }
 
+/// The same from a queue that is full or nearly so. "at least" is also for what is refused with 14
+/// while tokens are there.
+#[test]
+fn s14_stretches_of_full_queues() {
+    let mut chance = Chance { v: 9 };
+    let (mut just, mut more, mut met) = (0, 0, 0);
+    for _ in 0..300 {
+        let mut core = chance_full_core(&mut chance);
+        let n = chance.below(900);
+        let Picks { figure, picks, met_14 } =
+            chance_stretch(&mut core, n, chance.below(3), &mut chance);
+        just += u32::from(figure > 0 && picks == figure);
+        more += u32::from(figure > 0 && picks > figure);
+        met += u32::from(figure > 0 && met_14);
+    }
+    assert!(just > 5 && more > 50 && met > 20, "{} {} {}", just, more, met);
+}
+
 /// docs/LONG_RUNS.md, "The calls": to which row of the table a k belongs, by the first letter of
 /// its call (`d` for load, which adds dummies), at both ends of each row and in both times.
 #[test]
 fn maker_rows() {
-    let ends = [0, 1, 160, 161, 240, 241, 260, 261, 516, 517, 3900, 3901, 4095];
-    for (time, wanted) in [(Time::Busy, "ojjccllddaatt"), (Time::Quiet, "ojjccllddtttt")] {
+    let ends = [0, 1, 640, 641, 720, 721, 740, 741, 1764, 1765, 15600, 15601, 16380, 16383];
+    for (time, wanted) in [(Time::Busy, "ojjccllddaattt"), (Time::Quiet, "ojjccllddttttt")] {
         let letters: String = ends.iter().map(|&k| letter(&call(time, k, 1, 1, 1))).collect();
         assert_eq!(letters, wanted);
+    }
+}
+
+/// "An id is made from b", on both sides of 65536: 65536 is 64 more than a multiple of 66.
+#[test]
+fn maker_ids() {
+    for (b, id) in [(0, 0), (7, 7), (8, 0), (65535, 7), (65536, 64), (65537, 65), (65538, 0),
+                    (65601, 63), (131071, 61), (131072, 0), (131081, 1), (4294967295, 3)] {
+        assert_eq!(call(Time::Busy, 721, b, 0, 0), Call::Leave { id }, "{}", b);
+    }
+}
+
+/// "A rate is d mod 1025 for id 0, and d mod 17 for any other id." Id 0 is made of 8 and of 65538,
+/// by either rule. A join and a change have the same terms.
+#[test]
+fn maker_rates() {
+    for (b, id, d, rate) in [(8, 0, 1024, 1024), (8, 0, 1025, 0), (65538, 0, 1024, 1024),
+                             (65538, 0, 2051, 1), (1, 1, 16, 16), (1, 1, 17, 0), (1, 1, 1024, 4),
+                             (65601, 63, 1024, 4), (65536, 64, 1024, 4)] {
+        let burst = 64;
+        assert_eq!(call(Time::Quiet, 1, b, 1, d), Call::Join { id, kind: 1, rate, burst });
+        assert_eq!(call(Time::Quiet, 641, b, 1, d), Call::Change { id, kind: 1, rate, burst });
+    }
+}
+
+/// "A burst for type 1 is (d / 64) mod 66 if d / 65536 is odd, 64 if it is even; for any other type
+/// it is ((d / 64) mod 66) / 65." 65536 / 64 is 34 more than a multiple of 66.
+#[test]
+fn maker_bursts() {
+    for (d, indifferent, other) in [(0, 64, 0), (4159, 64, 0), (4160, 64, 1), (4223, 64, 1),
+                                    (4224, 64, 0), (65535, 64, 0), (65536, 34, 0), (67519, 64, 0),
+                                    (67520, 65, 1), (67583, 65, 1), (67584, 0, 0), (131071, 1, 0),
+                                    (131072, 64, 0), (131008, 1, 0), (131007, 0, 0)] {
+        for (c, kind, burst) in [(0, 0, other), (1, 1, indifferent), (2, 2, other)] {
+            let rate = d % 17;
+            assert_eq!(call(Time::Busy, 640, 1, c, d), Call::Join { id: 1, kind, rate, burst });
+        }
+    }
+}
+
+/// "open: threshold b mod 1026 if b / 65536 is odd, 1024 if it is even; discipline c mod 3, seed
+/// (d mod 6) · 316840187". 65536 is 898 more than a multiple of 1026.
+#[test]
+fn maker_opens() {
+    for (b, threshold) in [(0, 1024), (5, 1024), (65535, 1024), (65536, 898), (65663, 1025),
+                           (65664, 0), (65665, 1), (131071, 769), (131072, 1024)] {
+        for (c, discipline) in [(2, 2), (3, 0), (4, 1)] {
+            for (d, seed) in [(0, 0), (1, 316840187), (11, 1584200935), (12, 0)] {
+                let wanted = Call::Open { threshold, discipline, seed };
+                assert_eq!(call(Time::Busy, 0, b, c, d), wanted);
+            }
+        }
+    }
+}
+
+/// "load: id, c mod 130 dummies"; "arrive: id, a packet with handle d and length 63 + c mod 1457".
+#[test]
+fn maker_loads_and_arrivals() {
+    for (c, count) in [(0, 0), (129, 129), (130, 0), (4294967295, 125)] {
+        assert_eq!(call(Time::Quiet, 1764, 15, c, 9), Call::Load { id: 7, count });
+    }
+    for (c, length) in [(0, 63), (1, 64), (1456, 1519), (1457, 63), (4294967295, 903)] {
+        let wanted = Call::Arrive { id: 7, handle: 4294967295, length };
+        assert_eq!(call(Time::Busy, 1765, 15, c, 4294967295), wanted);
     }
 }
 
@@ -1075,25 +1292,25 @@ fn letter(call: &Call) -> char {
     }
 }
 
-/// "Busy times and quiet times take turns, and the first is busy." "A call with k = 4095 is the
-/// last of its time"; k is from the first of a call's four draws.
+/// "Busy times and quiet times take turns, and the first is busy." "A call with k = 16380 or above
+/// is the last of its time"; k is from the first of a call's four draws.
 #[test]
 fn maker_times() {
     let mut maker = Maker::new(1);
-    let (mut v, mut busy, mut turns) = (1, true, 0);
-    for _ in 0..100_000 {
-        let k = xorshift32(v) % 4096;
+    let (mut v, mut busy, mut turns) = (1, true, [0; 4]);
+    for _ in 0..200_000 {
+        let k = xorshift32(v) % 16384;
         for _ in 0..4 {
             v = xorshift32(v);
         }
         let arrives = letter(&maker.next_call()) == 'a';
-        assert_eq!(arrives, busy && k >= 517 && k <= 3900);
-        if k == 4095 {
+        assert_eq!(arrives, busy && k >= 1765 && k <= 15600);
+        if k >= 16380 {
             busy = !busy;
-            turns += 1;
+            turns[k as usize - 16380] += 1;
         }
     }
-    assert!(turns > 10);
+    assert!(turns.iter().all(|&count| count > 2), "{:?}", turns);
 }
 
 #[test]

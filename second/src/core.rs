@@ -1,6 +1,6 @@
 //! The slot core of paper 01: clients, queues, pools, buckets and the seven calls, with the draw
-//! of paper 02, S-1, and the buckets of S-4, which begin empty. Sentences quoted without a paper's
-//! number are paper 01's.
+//! of paper 02, S-1, the buckets of S-4, which begin empty, and the places of S-9. Sentences quoted
+//! without a paper's number are paper 01's.
 //! Checking and doing are kept apart: `refusal` only looks, so "nothing changes".
 
 use std::collections::VecDeque;
@@ -8,6 +8,11 @@ use std::collections::VecDeque;
 /// "An active client is indifferent (type 1) or private (type 2)."
 pub const INDIFFERENT: u32 = 1;
 pub const PRIVATE: u32 = 2;
+
+/// Paper 02, S-9: "Every id now has 128 places, and 14 comes with 128 waiting." As before, "No id
+/// uses another's places, and a place is used again once its packet has gone." "the edition of 32"
+/// has its own number here, and differs in nothing else.
+pub const PLACES: usize = 128;
 
 /// The seven calls; "calls take unsigned 32-bit numbers". `kind` is the type.
 #[derive(Debug, Clone, PartialEq, Eq)]
@@ -256,8 +261,8 @@ impl Opened {
         None
     }
 
-    /// "arrive | 13 | length outside 64..1518", "arrive | 14 | 32 packets wait already",
-    /// "arrive | 15 | indifferent and level below 1024"
+    /// "arrive | 13 | length outside 64..1518"; 14 if as many packets "wait already" as the id has
+    /// places (paper 02, S-9); "arrive | 15 | indifferent and level below 1024"
     fn arrive_refusal(&self, id: u32, length: u32) -> Option<u32> {
         if let Some(number) = self.id_refusal(id) {
             return Some(number);
@@ -266,7 +271,7 @@ impl Opened {
         if length < 64 || length > 1518 {
             return Some(13);
         }
-        if client.queue.len() >= 32 {
+        if client.queue.len() >= PLACES {
             return Some(14);
         }
         if client.kind == INDIFFERENT && client.level < 1024 {

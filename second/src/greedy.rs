@@ -56,7 +56,7 @@ impl Run {
             0 => Call::Open { threshold: 1024, discipline: c % 2, seed: d },
             1 => Call::Join { id: GREEDY, kind: INDIFFERENT, rate: rate_of(c), burst: 2 + d % 63 },
             3 => arrival(GREEDY, c, d),
-            4..=7 => call(Time::Busy, 1 + a % 3900, b % 65536, c, d),
+            4..=7 => call(Time::Busy, 1 + a % 15600, b % 65536, c, d),
             _ => Call::Tick, // phases 2 and 8
         }
     }

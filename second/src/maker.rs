@@ -47,35 +47,61 @@ impl Maker {
         [a, b, c, d]
     }
 
-    /// The next call of a long run: the table of calls, "With k = a mod 4096". "A call with
-    /// k = 4095 is the last of its time".
+    /// The next call of a long run: the table of calls, "With k = a mod 16384". "A call with
+    /// k = 16380 or above is the last of its time".
     pub fn next_call(&mut self) -> Call {
         let [a, b, c, d] = self.draws();
-        let k = a % 4096;
+        let k = a % 16384;
         let call = call(self.time, k, b, c, d);
-        if k == 4095 {
+        if k >= 16380 {
             self.time = self.time.other();
         }
         call
     }
 }
 
+/// "if b / 65536 is odd", and the same of d.
+fn is_odd(draw: u32) -> bool {
+    (draw / 65536) % 2 == 1
+}
+
 /// "An id is made from b: b mod 66 if b / 65536 is odd, b mod 8 if it is even."
 fn id_of(b: u32) -> u32 {
-    if (b / 65536) % 2 == 1 {
+    if is_odd(b) {
         b % 66
     } else {
         b % 8
     }
 }
 
-/// "A burst is (d / 64) mod 66 for type 1; for any other type it is ((d / 64) mod 66) / 65."
+/// "A rate is d mod 1025 for id 0, and d mod 17 for any other id."
+fn rate_of(id: u32, d: u32) -> u32 {
+    if id == 0 {
+        d % 1025
+    } else {
+        d % 17
+    }
+}
+
+/// "A burst for type 1 is (d / 64) mod 66 if d / 65536 is odd, 64 if it is even; for any other type
+/// it is ((d / 64) mod 66) / 65."
 fn burst_of(kind: u32, d: u32) -> u32 {
     let burst = (d / 64) % 66;
-    if kind == INDIFFERENT {
+    if kind != INDIFFERENT {
+        burst / 65
+    } else if is_odd(d) {
         burst
     } else {
-        burst / 65
+        64
+    }
+}
+
+/// Of an open: "threshold b mod 1026 if b / 65536 is odd, 1024 if it is even".
+fn threshold_of(b: u32) -> u32 {
+    if is_odd(b) {
+        b % 1026
+    } else {
+        1024
     }
 }
 
@@ -84,20 +110,20 @@ pub fn arrival(id: u32, c: u32, d: u32) -> Call {
     Call::Arrive { id, handle: d, length: 63 + c % 1457 }
 }
 
-/// The table of calls, by k. From 517 to 3900 it is "in a busy time arrive ...; in a quiet time
+/// The table of calls, by k. From 1765 to 15600 it is "in a busy time arrive ...; in a quiet time
 /// tick".
 pub fn call(time: Time, k: u32, b: u32, c: u32, d: u32) -> Call {
     let id = id_of(b);
     let kind = c % 3; // "A type is c mod 3."
-    let rate = d % 33; // "A rate is d mod 33."
+    let rate = rate_of(id, d);
     let burst = burst_of(kind, d);
     match k {
-        0 => Call::Open { threshold: b % 1026, discipline: c % 3, seed: d % 6 * 316840187 },
-        1..=160 => Call::Join { id, kind, rate, burst },
-        161..=240 => Call::Change { id, kind, rate, burst },
-        241..=260 => Call::Leave { id },
-        261..=516 => Call::Load { id, count: c % 130 },
-        517..=3900 if time == Time::Busy => arrival(id, c, d),
+        0 => Call::Open { threshold: threshold_of(b), discipline: c % 3, seed: d % 6 * 316840187 },
+        1..=640 => Call::Join { id, kind, rate, burst },
+        641..=720 => Call::Change { id, kind, rate, burst },
+        721..=740 => Call::Leave { id },
+        741..=1764 => Call::Load { id, count: c % 130 },
+        1765..=15600 if time == Time::Busy => arrival(id, c, d),
         _ => Call::Tick,
     }
 }

@@ -57,7 +57,7 @@ callIn phase a b c d =
     (cond (eqb phase joining) (Join greedy indifferentKind (rateFrom c) (2 + d % 63))
     (cond (eqb phase pausing || eqb phase ticking) Tick
     (cond (eqb phase offering) (Arrive greedy (packetOf c d))
-    (callAt false (1 + a % 3900) (b % 65536) c d))))
+    (callAt false (1 + a % 15600) (b % 65536) c d))))
 
 abbrev pub inPhase : Counts → ℕ → Counts
 inPhase k phase = record {

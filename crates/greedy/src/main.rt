@@ -103,7 +103,7 @@ fn call_in(phase: u32, a: u32, b: u32, c: u32, d: u32) -> Call
             id: GREEDY,
             packet: runs::packet_of(c, d),
         },
-        _ => runs::call_of(false, 1 + a % 3900, b % 65536, c, d),
+        _ => runs::call_of(false, 1 + a % 15600, b % 65536, c, d),
     }
 }
 

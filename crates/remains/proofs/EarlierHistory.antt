@@ -13,7 +13,7 @@ use Rattle.definitions.specs.Calls.{onOpen}
 use Rattle.definitions.specs.Core.{step}
 use Rattle.definitions.proofs.Laws.Checked.{checked-anyway, checked-accepted}
 use Rattle.grammar.specs.Calls.{eventOf}
-use Rattle.runs.specs.Calls.{callAt}
+use Rattle.runs.specs.Calls.{byUpper, callAt}
 use Rattle.runs.specs.LongRun.{begunOn, begun, nthDraw, callFrom, taken, next, after, block}
 use Rattle.runs.specs.Advance.{repeated}
 use Rattle.remains.specs.Started.{behind, started, OpensFirst, EarlierUnseen}
@@ -46,6 +46,6 @@ earlier-unseen earlier seed zero first = next-started seed first earlier
 earlier-unseen earlier seed (suc calls) first = ap next (earlier-unseen earlier seed calls first)
 
 -- the seed of the tests
-pub tested-opens : OpensFirst 4369
-unfolding callFrom callAt nthDraw stepped xorLeft xorRight step onOpen checked openChecks within shares weightedDraw
-tested-opens = record { threshold = 618; discipline = 0; generator = 316840187; opens = refl; accepts = refl }
+pub tested-opens : OpensFirst 17476
+unfolding callFrom callAt byUpper nthDraw stepped xorLeft xorRight step onOpen checked openChecks within shares weightedDraw
+tested-opens = record { threshold = 1024; discipline = 1; generator = 316840187; opens = refl; accepts = refl }

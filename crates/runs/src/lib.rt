@@ -13,7 +13,7 @@ use tables::TERMS;
 ghost use mathlib.Core.Path.{_≡_};
 ghost use Rattle.tables.specs.Tables.{tables};
 ghost use Rattle.tables.specs.Invariant.{Valid};
-ghost use Rattle.runs.specs.Calls.{idOf, burstOf, packetOf, trafficAt, callAt, kOf, quietAfter};
+ghost use Rattle.runs.specs.Calls.{byUpper, idOf, rateOf, burstOf, packetOf, trafficAt, callAt, kOf, quietAfter};
 ghost use Rattle.runs.specs.Check.{mix, checkWith};
 ghost use Rattle.runs.specs.Stands.{Begins, Drawn, Takes, Goes};
 
@@ -45,10 +45,24 @@ pub struct Taken {
     pub answer: Answer,
 }
 
+// One of two numbers, as the upper half of a draw is odd or even.
+fn by_upper(v: u32, odd: u32, even: u32) -> u32
+    ensures { λ r. ⌜ r ≡ byUpper v odd even ⌝ }
+{
+    if v / 65536 % 2 == 1 { odd } else { even }
+}
+
 fn id_of(b: u32) -> u32
     ensures { λ r. ⌜ r ≡ idOf b ⌝ }
 {
-    if b / 65536 % 2 == 1 { b % 66 } else { b % 8 }
+    by_upper(b, b % 66, b % 8)
+}
+
+// A rate of client 0 may be so large that its bucket fills again while packets of others go out, and its queue gets full.
+fn rate_of(id: u32, d: u32) -> u32
+    ensures { λ r. ⌜ r ≡ rateOf id d ⌝ }
+{
+    if id == 0 { d % 1025 } else { d % 17 }
 }
 
 fn burst_of(kind: u32, d: u32) -> u32
@@ -56,7 +70,7 @@ fn burst_of(kind: u32, d: u32) -> u32
 {
     let burst = d / 64 % 66;
     if kind == INDIFFERENT {
-        burst
+        by_upper(d, burst, 64)
     } else {
         burst / 65
     }
@@ -75,13 +89,13 @@ pub fn packet_of(c: u32, d: u32) -> Packet
 fn traffic_of(quiet: bool, k: u32, id: u32, c: u32, d: u32) -> Call
     ensures { λ r. ⌜ r ≡ trafficAt quiet k id c d ⌝ }
 {
-    if k <= 516 {
+    if k <= 1764 {
         return Call::Load {
             id,
             dummies: c % 130,
         };
     }
-    if k <= 3900 && !quiet {
+    if k <= 15600 && !quiet {
         let packet = packet_of(c, d);
         return Call::Arrive { id, packet };
     }
@@ -92,14 +106,14 @@ fn traffic_of(quiet: bool, k: u32, id: u32, c: u32, d: u32) -> Call
 fn k_of(a: u32) -> u32
     ensures { λ r. ⌜ r ≡ kOf a ⌝ }
 {
-    a % 4096
+    a % 16384
 }
 
 // Whether the time is quiet after a call.
 fn quiet_after(k: u32, quiet: bool) -> bool
     ensures { λ r. ⌜ r ≡ quietAfter k quiet ⌝ }
 {
-    if k == 4095 { !quiet } else { quiet }
+    if k >= 16380 { !quiet } else { quiet }
 }
 
 pub fn draw(maker: Maker) -> Draws
@@ -129,16 +143,16 @@ pub fn call_of(quiet: bool, k: u32, b: u32, c: u32, d: u32) -> Call
     if k == 0 {
         let seed = d % 6 * 316840187;
         return Call::Open {
-            threshold: b % 1026,
+            threshold: by_upper(b, b % 1026, 1024),
             discipline: c % 3,
             seed,
         };
     }
     let id = id_of(b);
     let kind = c % 3;
-    let rate = d % 33;
+    let rate = rate_of(id, d);
     let burst = burst_of(kind, d);
-    if k <= 160 {
+    if k <= 640 {
         return Call::Join {
             id,
             kind,
@@ -146,7 +160,7 @@ pub fn call_of(quiet: bool, k: u32, b: u32, c: u32, d: u32) -> Call
             burst,
         };
     }
-    if k <= 240 {
+    if k <= 720 {
         return Call::Change {
             id,
             kind,
@@ -154,7 +168,7 @@ pub fn call_of(quiet: bool, k: u32, b: u32, c: u32, d: u32) -> Call
             burst,
         };
     }
-    if k <= 260 {
+    if k <= 740 {
         return Call::Leave { id };
     }
     traffic_of(quiet, k, id, c, d)

@@ -8,12 +8,18 @@ use Rattle.runs.proofs.call_of.Tie as tie
 mul-seed : tie.Need-mul-seed
 mul-seed c = search needs
 
+by-upper-requires : tie.Need-by-upper-requires
+by-upper-requires c κs = search needs
+
 returns : tie.Need-returns
 unfolding callAt
-returns c = rw (eq-eqb _ _ (c .if1 .taken))
+returns c = rw (c .by-upper .ensures, eq-eqb _ _ (c .before .if1 .taken))
 
 id-of-requires : tie.Need-id-of-requires
 id-of-requires c κs = search needs
+
+rate-of-requires : tie.Need-rate-of-requires
+rate-of-requires c κs = search needs
 
 burst-of-requires : tie.Need-burst-of-requires
 burst-of-requires c κs = search needs
@@ -23,9 +29,10 @@ unfolding callAt
 returns-2 c =
     let b = c .before in
     rw (
-      b .before .id-of .ensures,
       b .burst-of .ensures,
-      ne-eqb _ _ (b .before .before .if1 .left),
+      b .before .rate-of .ensures,
+      b .before .before .id-of .ensures,
+      ne-eqb _ _ (b .before .before .before .if1 .left),
       le-leb _ _ (c .if2 .taken),
     )
 
@@ -34,9 +41,10 @@ unfolding callAt
 returns-3 c =
     let b = c .before .before in
     rw (
-      b .before .id-of .ensures,
       b .burst-of .ensures,
-      ne-eqb _ _ (b .before .before .if1 .left),
+      b .before .rate-of .ensures,
+      b .before .before .id-of .ensures,
+      ne-eqb _ _ (b .before .before .before .if1 .left),
       lt-leb _ _ (c .before .if2 .left),
       le-leb _ _ (c .if3 .taken),
     )
@@ -46,8 +54,8 @@ unfolding callAt
 returns-4 c =
     let b = c .before .before .before in
     rw (
-      b .before .id-of .ensures,
-      ne-eqb _ _ (b .before .before .if1 .left),
+      b .before .before .id-of .ensures,
+      ne-eqb _ _ (b .before .before .before .if1 .left),
       lt-leb _ _ (c .before .before .if2 .left),
       lt-leb _ _ (c .before .if3 .left),
       le-leb _ _ (c .if4 .taken),
@@ -62,8 +70,8 @@ returns-5 c =
     let b = c .before .before .before .before in
     rw (
       c .traffic-of .ensures,
-      b .before .id-of .ensures,
-      ne-eqb _ _ (b .before .before .if1 .left),
+      b .before .before .id-of .ensures,
+      ne-eqb _ _ (b .before .before .before .if1 .left),
       lt-leb _ _ (c .before .before .before .if2 .left),
       lt-leb _ _ (c .before .before .if3 .left),
       lt-leb _ _ (c .before .if4 .left),
@@ -74,8 +82,10 @@ call-of-spec =
     tie.close
     (tie.spec
     mul-seed
+    by-upper-requires
     returns
     id-of-requires
+    rate-of-requires
     burst-of-requires
     returns-2
     returns-3
