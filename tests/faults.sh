@@ -2,7 +2,8 @@
 # Shows that the tests can fail: builds the second program with each fault of paper 01's list, with the plain remainder that S-1 of
 # paper 02 does away with, with the full buckets that its S-4 does away with, with two wrong figures for S-14 and with three faults against
 # S-8, and runs the tests on it.
-#   tests/faults.sh BUILD    in the root of the repository, after the build of tests/run; needs target/bin/fair for the cases
+#   tests/faults.sh BUILD CASES    in the root of the repository, after the build of tests/run; needs target/bin/fair for the cases. CASES is the
+#                                  folder of the edition's cases
 # `compare`, the cases and the long run must catch 1 to 6, 9 and 9b, `pairs` the first four (the others cannot be seen by pairs, see
 # src/pairs.rs), `stretches` all of these but 5b (which needs longer queues than fit a stretch). What a greedy client gets is wrong with 5
 # alone: the other faults take no token from a client that meets no 14. More than a client that switches has bought comes of 9 alone, a full
@@ -13,7 +14,7 @@
 # them, and the sentences alone do too, each by another one. The three that are proved hold under 8, whose left shares go to the highest
 # ids, and speak of no refusal, so not of 8c, an empty list that is refused; the words of the request on who gets what is left, and on 22, do.
 # Prints a line for each; the printouts stay in BUILD/fault-N.
-build=$1 passed=0 failed=0
+build=$1 edition=$2 passed=0 failed=0 millions=10 # of calls, of which the sixth shows 5b
 
 # Prints what became of a fault.
 judge() { # fault, test, what was found, what should be, the test's own words
@@ -40,7 +41,7 @@ try() { # fault, test, caught or not seen, the test's arguments
 
 # The same for the cases, which say a line for each: of interest is the first that the planted program fails.
 try_cases() { # fault
-    "$build/cases" "$planted" target/bin/fair tests/cases/*.case >"$folder/cases.txt"
+    "$build/cases" "$planted" target/bin/fair tests/cases/*.case "$edition"/*.case >"$folder/cases.txt"
     case "$? $(grep -m 1 "^failed: .* of slots is" "$folder/cases.txt")" in
     "0 ") judge "$1" "the cases" "not seen" caught "$(tail -n 1 "$folder/cases.txt")" ;;
     "1 failed: "*) judge "$1" "the cases" caught caught "$(sed -n "s/^failed: //p" "$folder/cases.txt" | head -n 1)" ;;
@@ -66,7 +67,7 @@ plant() { # fault, source, name
     rustc -O --edition 2021 "$folder/src/$2.rs" -o "$planted" || exit 2
 }
 
-"$build/long" 1 3 >"$build/long.txt"
+"$build/long" 1 $millions >"$build/long.txt"
 for fault in 1 2 3 4 5 5b 6 7 7b 9 9b; do
     plant $fault main slots
     in_printouts=caught scripts=2000 in_pairs=caught in_stretches=caught in_counts="not seen" in_figures=caught in_picks="not seen"
@@ -85,8 +86,8 @@ for fault in 1 2 3 4 5 5b 6 7 7b 9 9b; do
     for program in long greedy; do
         rustc -O --edition 2021 "$folder/src/$program.rs" -o "$folder/$program" || exit 2
     done
-    "$folder/long" 1 3 >"$folder/long.txt"
-    if [ "$(cat "$build/long.txt" "$folder/long.txt" | wc -l)" != 6 ]; then found="not tried"
+    "$folder/long" 1 $millions >"$folder/long.txt"
+    if [ "$(cat "$build/long.txt" "$folder/long.txt" | wc -l)" != $((2 * millions)) ]; then found="not tried"
     elif cmp "$build/long.txt" "$folder/long.txt" >"$folder/cmp.txt"; then found="not seen"
     else found=caught; fi
     judge $fault "the long run" "$found" caught "$(sed 's/.*, //' "$folder/cmp.txt")"

@@ -81,14 +81,15 @@ pub struct Seen {
     kinds: [u64; KINDS.len()],
 }
 
-const KINDS: [&str; 14] = [
+const KINDS: [&str; 16] = [
     "answers to opens",
     "answers to joins, changes and leaves",
     "of these, accepted changes of type",
     "accepted arrives and loads of the chosen client",
     "refused arrives and loads of the chosen client",
     "accepted arrives of other indifferent clients",
-    "drops of indifferent clients, 14",
+    "drops of indifferent clients, 14, discipline 0",
+    "drops of indifferent clients, 14, discipline 1",
     "drops of indifferent clients, 15",
     "departures under rule 1",
     "slots of the chosen client under rule 2",
@@ -96,6 +97,7 @@ const KINDS: [&str; 14] = [
     "of these, picks that sent something else in the other history",
     "slots without anyone",
     "ticks of an unopened core",
+    "drops of the chosen client while private, 14",
 ];
 
 impl Seen {
@@ -112,7 +114,7 @@ impl Seen {
     }
 
     fn add_call(&mut self, chosen: u32, kept: &Kept, answer: &[u8]) {
-        let accepted = answer == b"(ok)\n";
+        let (accepted, full) = (answer == b"(ok)\n", answer == b"(refused 14)\n");
         match kept.call {
             Call::Open { .. } => self.kinds[0] += 1,
             Call::Arrive { id, .. } | Call::Load { id, .. } if id == chosen => {
@@ -128,25 +130,27 @@ impl Seen {
                 self.kinds[2] += u64::from(accepted && other);
             }
             Call::Arrive { id, .. } if is_indifferent(&kept.settings, id) => {
-                self.kinds[6] += u64::from(answer == b"(refused 14)\n");
-                self.kinds[7] += u64::from(answer == b"(refused 15)\n");
+                let discipline = kept.settings.opened.as_ref().map_or(0, |opened| opened.discipline);
+                self.kinds[6 + discipline as usize] += u64::from(full);
+                self.kinds[8] += u64::from(answer == b"(refused 15)\n");
             }
+            Call::Arrive { .. } => self.kinds[15] += u64::from(full),
             _ => {}
         }
     }
 
     fn add_slot(&mut self, chosen: u32, settings: &Core, outcome: &Outcome, same: bool) {
         let Some(id) = id_of(outcome) else {
-            self.kinds[12] += 1;
+            self.kinds[13] += 1;
             return;
         };
         if is_indifferent(settings, id) {
-            self.kinds[8] += 1;
-        } else if id == chosen {
             self.kinds[9] += 1;
-        } else {
+        } else if id == chosen {
             self.kinds[10] += 1;
-            self.kinds[11] += u64::from(!same);
+        } else {
+            self.kinds[11] += 1;
+            self.kinds[12] += u64::from(!same);
         }
     }
 }
@@ -206,7 +210,7 @@ fn compare_answers(
     }
     if kept.settings.opened.is_none() {
         // "An unopened core's tick has no slot and gets 19 in both."
-        seen.kinds[13] += 1;
+        seen.kinds[14] += 1;
         let right = one == b"(refused 19)\n" && other == b"(refused 19)\n";
         return if right { Ok(()) } else { Err(differ()) };
     }

@@ -2,6 +2,7 @@
 
 pub mod arguments;
 pub mod buckets;
+pub mod crowds;
 pub mod demands;
 pub mod difference;
 pub mod history;

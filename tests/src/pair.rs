@@ -1,10 +1,11 @@
 //! Pairs of scripts with the same kept calls, from a seed.
 
+use crate::crowds::Crowd;
 use crate::history::{is_indifferent, History};
 use crate::lines::{line_of, near_miss};
 use crate::random::Random;
 use crate::seeds::high_seed;
-use second::core::{Call, Client, Core, INDIFFERENT, PRIVATE};
+use second::core::{Call, Client, Core, INDIFFERENT, PLACES, PRIVATE};
 use second::script::{parse, Line};
 
 /// Which text a line stands in.
@@ -88,18 +89,20 @@ impl Maker {
         let wild = self.random.pick(&[3, 6, 12, 40]);
         let quiet = self.random.one_in(3);
         let early = if self.random.one_in(4) { 5 } else { 0 };
+        let crowded = if self.random.one_in(16) { self.random.below(kept) } else { kept };
         for place in 0..kept {
-            if self.random.one_in(wild) {
-                self.struck_out(Side::First);
+            if place == crowded {
+                self.crowd(wild, quiet);
             }
-            if !quiet && self.random.one_in(wild) {
-                self.struck_out(Side::Second);
-            }
+            self.struck_out_here(wild, quiet);
             let call = if place < early { self.any_call() } else { self.next_call() };
             self.keep(call);
             if self.random.one_in(40) {
                 self.rest();
             }
+        }
+        if self.random.one_in(8) {
+            self.overrun();
         }
         // What waits at the end shows only when it is asked for.
         for _ in 0..10 {
@@ -109,8 +112,41 @@ impl Maker {
         }
     }
 
+    /// In either text, in one place of so many, or in the first alone.
+    fn struck_out_here(&mut self, wild: usize, quiet: bool) {
+        if self.random.one_in(wild) {
+            self.struck_out(Side::First);
+        }
+        if !quiet && self.random.one_in(wild) {
+            self.struck_out(Side::Second);
+        }
+    }
+
+    /// The chosen client, or another one, as an indifferent client past its places.
+    fn crowd(&mut self, wild: usize, quiet: bool) {
+        let discipline = self.random.between(0, 1);
+        let id = self.random.pick(&[self.chosen, self.ids[0]]);
+        for call in Crowd::calls(&mut self.random, discipline, id) {
+            self.struck_out_here(4 * wild, quiet);
+            self.keep(call);
+        }
+    }
+
+    /// The chosen client's packets, past its places or its tokens.
+    fn overrun(&mut self) {
+        for _ in 0..2 * PLACES {
+            if self.client(self.chosen).is_some_and(|client| client.queue.len() < PLACES) {
+                let call = self.packet(self.chosen);
+                self.keep(call);
+            }
+        }
+        for _ in 0..2 {
+            self.keep(Call::Arrive { id: self.chosen, handle: 0, length: 64 });
+        }
+    }
+
     /// Ticks in which the bucket of a client fills, since it begins empty, and then its packets,
-    /// some more than its tokens or its places.
+    /// some more than its tokens.
     fn rest(&mut self) {
         let Some(id) = self.one_indifferent() else {
             return;
@@ -260,7 +296,7 @@ impl Maker {
         if id == self.chosen || is_indifferent(&self.core, id) {
             return;
         }
-        let most = self.random.pick(&[1, 3, 40]);
+        let most = self.random.pick(&[1, 3, 3, PLACES as u32 + 20]);
         for _ in 0..self.random.between(1, most) {
             let call = if self.random.one_in(5) { self.load(id) } else { self.packet(id) };
             self.insert(side, line_of(&call));

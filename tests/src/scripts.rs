@@ -3,10 +3,11 @@
 //! depend on the state (room left under the threshold, pool, queue, level). A bucket begins empty
 //! (paper 02, S-4), so what needs tokens has ticks before it.
 
+use crate::crowds::Crowd;
 use crate::lines::{big_number, line_of, near_miss, odd_byte};
 use crate::random::Random;
 use crate::seeds::high_seed;
-use second::core::{Call, Client, Core, INDIFFERENT, PRIVATE};
+use second::core::{Call, Client, Core, INDIFFERENT, PLACES, PRIVATE};
 use second::script::{parse, Line};
 
 pub mod switches;
@@ -306,12 +307,13 @@ impl Writer {
 /// The families. Each writes at least `size` bytes.
 impl Writer {
     fn family(&mut self, size: usize) {
-        match self.random.below(19) {
+        match self.random.below(20) {
             0 | 1 => self.edges(size),
             2 | 3 => self.indifferent_traffic(size, 0),
             4 | 5 => self.indifferent_traffic(size, 1),
             6 | 7 => self.private_traffic(size),
-            8..=10 => self.full_queues(size),
+            8 | 9 => self.full_queues(size),
+            10 | 19 => self.crowds(size),
             11 => self.settings(size),
             12 | 13 => self.bucket_edges(size),
             14 | 15 => self.near_misses(size),
@@ -396,44 +398,88 @@ impl Writer {
         }
     }
 
-    /// Buckets filled, and then queues past 32 while the bucket still has tokens, then emptied and
-    /// refilled one by one till the tokens end: a token taken for a 14 brings the first 15 too early.
-    /// Without indifferent clients, the private queues fill and the draws go on.
+    /// Buckets filled, and then queues past their places, or their tokens where these are fewer, then
+    /// emptied and refilled one by one: a token taken for a 14 brings the first 15 too early. Without
+    /// indifferent clients, the private queues fill and the draws go on.
     fn full_queues(&mut self, size: usize) {
         const KINDS: [[u32; 3]; 5] = [
             [INDIFFERENT, INDIFFERENT, INDIFFERENT],
             [INDIFFERENT, INDIFFERENT, PRIVATE],
-            [INDIFFERENT, INDIFFERENT, PRIVATE],
+            [INDIFFERENT, PRIVATE, PRIVATE],
             [INDIFFERENT, PRIVATE, PRIVATE],
             [PRIVATE, PRIVATE, PRIVATE],
         ];
         self.open_any();
         let kinds = self.random.pick(&KINDS);
-        // With burst 32 the queue is full just when the tokens end, so that 14 and 15 meet; with
-        // a few more, tokens are left at a 14 and end soon after.
-        let bursts = self.random.pick(&[(32, 32), (33, 36), (33, 36), (33, 64)]);
-        for kind in kinds {
-            self.join(kind, 8, bursts);
-        }
+        // With as many tokens as places the queue is full just when they end, so that 14 and 15
+        // meet; with a few more, tokens are left at a 14 and end soon after.
+        let most = (PLACES as u32).min(60);
+        let bursts = self.random.pick(&[(most, most), (most + 1, most + 4), (most + 1, 64)]);
+        self.neighbours(&kinds, bursts);
         while self.text.len() < size {
             let kind = self.random.pick(&kinds);
             let id = self.one_of(kind);
-            let tokens = self.random.pick(&[32, 33, 36, 64, 64]);
+            let tokens = self.random.pick(&[most, most + 1, most + 4, 64, 64]);
             self.fill_fast(id, tokens);
             // One store for all would be full earlier.
             let neighbour = self.one_active();
             self.arrives(neighbour, 2);
-            let past = self.random.between(31, 38);
-            self.arrives(id, past);
-            let rounds = self.random.between(1, 40);
-            for _ in 0..rounds {
-                self.ticks(1);
-                self.arrives(id, 1);
-            }
+            self.past_the_places(id, tokens);
             if self.random.one_in(3) {
-                self.call(Call::Leave { id });
-                self.join(kind, 8, bursts);
+                self.anew(id, kind, bursts);
             }
+        }
+    }
+
+    /// Clients at ids in a row, so that a place too far would be the next one's.
+    fn neighbours(&mut self, kinds: &[u32], bursts: (u32, u32)) {
+        let any = self.random.between(0, 61);
+        let first = self.random.pick(&[0, any, any, 61]);
+        for (id, &kind) in (first..).zip(kinds) {
+            let rate = self.random.between(1, 8);
+            let burst = if kind == PRIVATE { 0 } else { self.random.between(bursts.0, bursts.1) };
+            self.call(Call::Join { id, kind, rate, burst });
+        }
+    }
+
+    /// Packets past what the client can have waiting, or nearly so, and then one behind each tick: now
+    /// and then so many that each of its places is used again.
+    fn past_the_places(&mut self, id: u32, tokens: u32) {
+        let (indifferent, places) = (self.active(INDIFFERENT).contains(&id), PLACES as u32);
+        let most = if indifferent { places.min(tokens) } else { places };
+        let past = self.random.between(most - 1, most + 6);
+        self.arrives(id, past);
+        let (few, all) = (self.random.between(1, 40), places + self.random.between(1, 9));
+        let rounds = self.random.pick(&[few, few, few, all]);
+        for _ in 0..rounds {
+            self.ticks(1);
+            self.arrives(id, 1);
+        }
+    }
+
+    /// A leave and a join, or a change to the other type, with packets waiting, and a few packets.
+    fn anew(&mut self, id: u32, kind: u32, bursts: (u32, u32)) {
+        let burst = |kind| if kind == PRIVATE { 0 } else { bursts.1 };
+        let (rate, other) = (self.random.between(1, 8), INDIFFERENT + PRIVATE - kind);
+        if self.random.one_in(2) {
+            self.call(Call::Leave { id });
+            self.call(Call::Join { id, kind, rate, burst: burst(kind) });
+        } else {
+            self.call(Call::Change { id, kind: other, rate, burst: burst(other) });
+        }
+        self.arrives(id, 2);
+        self.ticks(2);
+    }
+
+    /// Queues of indifferent clients past their places, under both disciplines.
+    fn crowds(&mut self, size: usize) {
+        while self.text.len() < size {
+            let (discipline, id) = (self.random.between(0, 1), self.random.between(0, 63));
+            for call in Crowd::calls(&mut self.random, discipline, id) {
+                self.call(call);
+            }
+            let count = self.random.between(1, 20);
+            self.ticks(count);
         }
     }
 

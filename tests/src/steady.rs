@@ -2,10 +2,11 @@
 //! ticks without open, hand-over, join, change, leave or change of type by timetable". Between the
 //! ticks stand arrivals, loads, and opens, joins, changes and leaves that are refused.
 
+use crate::crowds::Crowd;
 use crate::lines::{line_of, near_miss};
 use crate::random::Random;
 use crate::seeds::high_seed;
-use second::core::{Answer, Call, Client, Core, INDIFFERENT, PRIVATE};
+use second::core::{Answer, Call, Client, Core, INDIFFERENT, PLACES, PRIVATE};
 use second::script::{parse, Line};
 
 /// Where a line stands.
@@ -154,20 +155,35 @@ impl Maker {
         opened.threshold - others.map(|client| client.rate).sum::<u32>()
     }
 
+    fn is_full(&self, id: u32) -> bool {
+        self.client(id).is_some_and(|client| client.queue.len() == PLACES)
+    }
+
     /// Whether the next packet of `id` goes into its queue.
     fn is_granted(&self, id: u32) -> bool {
-        self.client(id).is_some_and(|client| client.queue.len() < 32 && client.level >= 1024)
+        self.client(id).is_some_and(|client| client.level >= 1024) && !self.is_full(id)
     }
 }
 
 /// The beginning.
 impl Maker {
-    /// One core or, now and then, another before it.
+    /// One core or, now and then, another before it; rarely one with a full queue of an indifferent
+    /// client.
     fn beginning(&mut self) {
         if self.random.one_in(8) {
             self.opened();
         }
+        if self.random.one_in(24) {
+            return self.crowd();
+        }
         self.opened();
+    }
+
+    fn crowd(&mut self) {
+        let (discipline, id) = (self.random.between(0, 1), self.random.between(0, 63));
+        for call in Crowd::calls_to_full(&mut self.random, discipline, id) {
+            self.call(&call);
+        }
     }
 
     fn opened(&mut self) {
@@ -303,7 +319,10 @@ impl Maker {
 impl Maker {
     fn stretch(&mut self) {
         self.part = Part::Steady;
-        let most = self.random.pick(&[1, 2, 8, 30, 30, 100, 100, 400, 2000]);
+        let usual = [1, 2, 8, 30, 30, 100, 100, 400, 2000];
+        // Behind a full queue it takes many ticks till something is sure.
+        let full = self.active(INDIFFERENT).iter().any(|&id| self.is_full(id));
+        let most = if full { self.random.pick(&[100, 1000, 2000]) } else { self.random.pick(&usual) };
         let ticks = self.random.between(most / 3, most);
         let offers = [Offers::Nothing, Offers::Few, Offers::Steadily, Offers::All, Offers::All];
         let offers = self.random.pick(&offers);

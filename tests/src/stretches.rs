@@ -1,6 +1,6 @@
 //! `stretches SLOTS SEED BLOCK`: where a long run differs, which script shows it? The calls of a block of the long run
-//! (docs/LONG_RUNS.md), from each open to the next, are sent through a program as scripts, those that fit a script, and the
-//! smallest that differs is printed. What no form can say, a type that is neither or a private burst, is refused and left out.
+//! (docs/LONG_RUNS.md), from each open to the next, or as far as a script goes, are sent through a program, and the smallest
+//! script that differs is printed. What no form can say, a type that is neither or a private burst, is refused and left out.
 
 use second::core::{Call, INDIFFERENT, PRIVATE};
 use second::maker::Maker;
@@ -39,21 +39,23 @@ fn main() {
     };
     let mut maker = Maker::new(seed.parse().expect("SEED is a 32-bit number"));
     let block: u64 = block.parse().expect("BLOCK is a number");
-    let (mut text, mut compared): (Vec<u8>, u64) = (Vec::new(), 0);
+    let (mut text, mut compared, mut full): (Vec<u8>, u64, bool) = (Vec::new(), 0, false);
     for made in 0..block * BLOCK {
         let call = maker.next_call();
         if made < (block - 1) * BLOCK || !has_form(&call) {
             continue;
         }
-        if matches!(call, Call::Open { .. }) && text.len() <= LONGEST {
+        if matches!(call, Call::Open { .. }) {
             compare(program, &text);
             compared += 1;
+            (text, full) = (Vec::new(), false);
         }
-        if matches!(call, Call::Open { .. }) {
-            text.clear();
+        let line = lines::line_of(&call);
+        full |= text.len() + line.len() + 1 > LONGEST;
+        if !full {
+            text.extend(line);
+            text.push(b'\n');
         }
-        text.extend(lines::line_of(&call));
-        text.push(b'\n');
     }
     println!("compared {} stretches of calls: no difference", compared);
 }

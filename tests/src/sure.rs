@@ -8,7 +8,7 @@
 //! With `alone` the second program is not asked for a figure, and there are no scripts but the
 //! stretches: what fails then is the program's own figure by its own picks.
 
-use second::core::{Call, Core, INDIFFERENT, PRIVATE};
+use second::core::{Call, Core, INDIFFERENT, PLACES, PRIVATE};
 use second::script::{parse, Line};
 use tests::arguments::Arguments;
 use tests::history::{id_of, printed_lines, slot};
@@ -30,7 +30,7 @@ struct Tally {
     ticks: u64,
 }
 
-const KINDS: [&str; 12] = [
+const KINDS: [&str; 13] = [
     "scripts with a figure above 0",
     "scripts with a figure of 0",
     "scripts refused with 18",
@@ -43,6 +43,7 @@ const KINDS: [&str; 12] = [
     "stretches with a private client and a demand past n, so that the figure is 0",
     "stretches of no tick",
     "opens, joins, changes and leaves in stretches, all refused",
+    "stretches with a figure above 0 that begin with a full queue of an indifferent client",
 ];
 
 /// How many of the kinds are of scripts.
@@ -74,6 +75,7 @@ impl Tally {
         self.counts[9] += u64::from(!nobody && demand(&start, n) > u64::from(n));
         self.counts[10] += u64::from(n == 0);
         self.counts[11] += settings.count() as u64;
+        self.counts[12] += u64::from(held.figure > 0 && is_full(&start));
         self.stretches += 1;
         self.ticks += u64::from(n);
     }
@@ -95,6 +97,12 @@ fn demand(start: &Core, n: u32) -> u64 {
     let indifferent = clients.filter(|client| client.kind == INDIFFERENT);
     let bought = |rate: u32, level: u32| (u64::from(level) + u64::from(n) * u64::from(rate)) / 1024;
     indifferent.map(|client| client.queue.len() as u64 + bought(client.rate, client.level)).sum()
+}
+
+/// Whether an indifferent client has all its places in use.
+fn is_full(start: &Core) -> bool {
+    let mut clients = start.opened.iter().flat_map(|opened| opened.clients.iter().flatten());
+    clients.any(|client| client.kind == INDIFFERENT && client.queue.len() == PLACES)
 }
 
 /// How many ticks a script's figure is asked for: few, numbers round multiples of 1024, where a

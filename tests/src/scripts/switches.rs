@@ -2,7 +2,7 @@
 //! S-4): a family of the scripts, and the scripts of the test `switching`.
 
 use super::Writer;
-use second::core::{Call, INDIFFERENT, PRIVATE};
+use second::core::{Call, INDIFFERENT, PLACES, PRIVATE};
 
 /// A script and the client in it that switches.
 pub struct Switching {
@@ -85,7 +85,7 @@ impl Writer {
             Way::Whole => (switcher.rate, large),
             Way::Greedy => (any, large),
             Way::Loose => (any, self.random.pick(&[small, small, large])),
-            Way::Restless => (any, self.random.pick(&[1, 32, 64])),
+            Way::Restless => (any, self.random.pick(&[1, 20, 64])),
         }
     }
 
@@ -110,7 +110,7 @@ impl Writer {
         if switcher.way == Way::Loose && !self.random.one_in(4) {
             return;
         }
-        while self.client(id).is_some_and(|client| client.queue.len() < 32 && client.level >= 1024) {
+        while self.client(id).is_some_and(|client| client.queue.len() < PLACES && client.level >= 1024) {
             self.arrives(id, 1);
         }
         let more = self.random.pick(&[1, 1, 1, 3]);
