@@ -1,45 +1,51 @@
 #!/bin/bash
-# Benchmarks the proved slot core (libbench.a) and the program slots against the plain ones, in time and instructions.
-#   bench.sh [--stub] [--calls | --lto] [--scripts] [FOLDER]
+# Benchmarks the proved slot core (libbench.a, libemptying.a) and the program slots against the plain ones, in time and instructions.
+#   bench.sh [--stub] [--calls | --lto] [--emptying | --scripts] [FOLDER]
 # Run it in the repository's root. Everything is built into FOLDER (default: target/bench). Both cores are inlined into their sequences.
-#   --stub     links stub.c in place of libbench.a, to try the benchmark itself; no scripts
-#   --scripts  only the scripts
-#   --calls    leaves the plain core behind calls (a milder yardstick, since the proved one stays inlined)
-#   --lto      inlines the plain core, which is the default
+#   --stub      links stub.c in place of the two libraries, to try the benchmark itself; no scripts
+#   --emptying  only the emptying and opening
+#   --scripts   only the scripts
+#   --calls     leaves the plain core behind calls (a milder yardstick, since the proved one stays inlined)
+#   --lto       inlines the plain core, which is the default
 set -euo pipefail
 shopt -s inherit_errexit
 
 here=$(cd "$(dirname "$0")" && pwd)
-out=target/bench stub= lto=-flto only_scripts=
+out=target/bench stub= lto=-flto only=
 for word in "$@"; do
     case $word in
     --stub) stub=1 ;;
     --calls) lto= ;;
     --lto) lto=-flto ;;
-    --scripts) only_scripts=1 ;;
-    -*) echo "usage: bench.sh [--stub] [--calls | --lto] [--scripts] [FOLDER]" >&2; exit 2 ;;
+    --emptying) only=emptying ;;
+    --scripts) only=scripts ;;
+    -*) echo "usage: bench.sh [--stub] [--calls | --lto] [--emptying | --scripts] [FOLDER]" >&2; exit 2 ;;
     *) out=$word ;;
     esac
 done
 flags="-std=c11 -O3 -march=x86-64 -Wall -Wextra"
-few=2000 many=12000 # rounds under callgrind; only the difference counts
+declare -A few=([calls]=2000 [emptying]=100) many=([calls]=12000 [emptying]=300) # rounds under callgrind; only the difference counts
+# callgrind counts each byte of a 'rep stosb' or 'rep movsb' as an instruction, so the C library is told to go by stores
+by_stores=glibc.cpu.x86_rep_stosb_threshold=100000000 and_moves=glibc.cpu.x86_rep_movsb_threshold=100000000
 
 mkdir -p "$out"
 temporary=$(mktemp -d)
 trap 'rm -rf "$temporary"' EXIT
 
-# Sets 'proved': the files that have bench_run, for gcc.
+# Sets 'proved': the files that have what begins with bench_, for gcc.
 find_proved() {
-    if [ -n "$stub" ]; then
-        proved=("$here/stub.c")
-        return
-    fi
-    local said=$temporary/staticlib also=()
-    RT_CUT=0 rt staticlib bench >"$said" 2>&1 || { cat "$said" >&2; exit 1; }
-    cat "$said" >&2
-    read -ra also < <(sed -n 's/.*; link \(.*\) beside it$/\1/p' "$said"; echo)
-    [ -f target/staticlib/libbench.a ] || { echo "bench.sh: no target/staticlib/libbench.a" >&2; exit 1; }
-    proved=(target/staticlib/libbench.a "${also[@]}")
+    proved=("$here/stub.c")
+    [ -z "$stub" ] || return 0
+    local name library said=$temporary/staticlib also
+    proved=()
+    for name in bench emptying; do
+        library=target/staticlib/lib$name.a
+        RT_CUT=0 rt staticlib "$name" >"$said" 2>&1 || { cat "$said" >&2; exit 1; }
+        cat "$said" >&2
+        read -ra also < <(sed -n 's/.*; link \(.*\) beside it$/\1/p' "$said"; echo)
+        [ -f "$library" ] || { echo "bench.sh: no $library" >&2; exit 1; }
+        proved+=("$library" "${also[@]}")
+    done
 }
 
 # The plain core and its script program are held to the second program, on scripts (tests/README.md).
@@ -59,53 +65,80 @@ build() {
     gcc $flags $lto "$out"/{harness,sequence,plain}.o "${proved[@]}" -o "$out/harness"
     local symbols
     symbols=$(nm "$out/harness")
-    if [ -n "$lto" ] && grep -E ' plain_(open|join|change|leave|load|arrive|tick|rates)' <<<"$symbols"; then
+    if [ -n "$lto" ] && grep -E ' plain_(open|join|change|leave|load|arrive|tick|rates)([.]|$)' <<<"$symbols"; then
         echo "bench.sh: gcc left the plain core behind calls" >&2
         exit 1
     fi
 }
 
-# instructions WHICH INDEX ROUNDS: the instructions of one run, start of the program included
+# instructions one|before WHICH INDEX ROUNDS: the instructions of one run, start of the program included
 instructions() {
-    valgrind --tool=callgrind --callgrind-out-file="$temporary/callgrind" \
-        "$out/harness" one "$1" "$2" "$3" >/dev/null 2>"$temporary/valgrind" ||
+    GLIBC_TUNABLES=$by_stores:$and_moves valgrind --tool=callgrind --callgrind-out-file="$temporary/callgrind" \
+        "$out/harness" "$@" >/dev/null 2>"$temporary/valgrind" ||
         { cat "$temporary/valgrind" >&2; exit 1; }
     awk '$1 == "totals:" { print $2 }' "$temporary/callgrind"
 }
 
-# per_call WHICH INDEX CALLS
-per_call() {
+# further one|before TABLE WHICH INDEX: the instructions of many rounds more than a few have
+further() {
     local low high
-    low=$(instructions "$1" "$2" $few)
-    high=$(instructions "$1" "$2" $many)
-    awk -v d=$((high - low)) -v n=$(((many - few) * $3)) 'BEGIN { printf "%.1f", d / n }'
+    low=$(instructions "$1" "$3" "$4" "${few[$2]}")
+    high=$(instructions "$1" "$3" "$4" "${many[$2]}")
+    echo $((high - low))
 }
 
+# per_call TABLE WHICH INDEX CALLS; a round of emptyings puts the tables back, which does not count
+per_call() {
+    local whole idle=0
+    whole=$(further one "$1" "$2" "$3")
+    [ "$1" != emptying ] || idle=$(further before "$1" "$2" "$3")
+    awk -v d=$((whole - idle)) -v n=$(((many[$1] - few[$1]) * $4)) 'BEGIN { printf "%.1f", d / n }'
+}
+
+# count_all TABLE
 count_all() {
     echo "| sequence | proved instructions/call | plain instructions/call | ratio |"
     echo "|---|---:|---:|---:|"
     local index calls name a b
-    "$out/harness" list | tail -n +2 | while read -r index calls name; do
-        a=$(per_call proved "$index" "$calls")
-        b=$(per_call plain "$index" "$calls")
+    "$out/harness" list "$1" | while read -r index calls name; do
+        a=$(per_call "$1" proved "$index" "$calls")
+        b=$(per_call "$1" plain "$index" "$calls")
         echo "| $name | $a | $b | $(awk -v a="$a" -v b="$b" 'BEGIN { printf "%.2f", a / b }') |"
     done
 }
 
-# depth_of TABLE WHAT: depth 32 over depth 1, from a table above
+# depth_of TABLE WHAT: the deep rows over those of depth 1, from a table above
 depth_of() {
     awk -F ' *[|] *' -v what="$2" '
         { proved[$2] = $3; plain[$2] = $4; order[NR] = $2 }
         END {
             for (i = 1; i <= NR; i++) {
                 deep = shallow = order[i]
-                if (!sub(/, depth 32$/, ", depth 1", shallow)) continue
-                name = deep
-                sub(/, depth 32$/, "", name)
-                printf "| %s | %s | %.2f | %.2f |\n", name, what,
-                    proved[deep] / proved[shallow], plain[deep] / plain[shallow]
+                if (!sub(/, depth [0-9]+$/, ", depth 1", shallow) || deep == shallow) continue
+                printf "| %s | %s | %.2f | %.2f |\n", deep, what, proved[deep] / proved[shallow], plain[deep] / plain[shallow]
             }
         }' "$1"
+}
+
+calls() {
+    "$out/harness" time calls >"$out/time.md" # stops here if the sums differ
+    echo "Time:"; echo; cat "$out/time.md"; echo
+    echo "Instructions:"; echo; count_all calls | tee "$out/instructions.md"; echo
+    echo "Deep over depth 1:"; echo
+    {
+        echo "| sequence | of | proved | plain |"
+        echo "|---|---|---:|---:|"
+        depth_of "$out/time.md" time
+        depth_of "$out/instructions.md" instructions
+    } | tee "$out/depth.md"
+}
+
+# Time and instructions of the same rows, side by side.
+emptying() {
+    echo "Emptying and opening:"; echo
+    "$out/harness" time emptying >"$temporary/time.md" # stops here if the sums differ
+    count_all emptying >"$temporary/instructions.md"
+    paste -d '' "$temporary/time.md" <(cut -d '|' -f 3- "$temporary/instructions.md") | tee "$out/emptying.md"
 }
 
 # script NAME: 60,000 bytes, the last line cut off; nothing for 'an empty script'
@@ -163,7 +196,7 @@ scripts() {
     gcc $flags "$here/programs.c" -o "$out/programs"
     echo "| 60,000 bytes of | slots µs | plain µs | ratio | slots instructions | plain | ratio | memset by stores: slots | plain | ratio |"
     echo "|---|---:|---:|---:|---:|---:|---:|---:|---:|---:|"
-    local name text=$temporary/script plain=$out/plain_slots by_stores=glibc.cpu.x86_rep_stosb_threshold=100000000
+    local name text=$temporary/script plain=$out/plain_slots
     for name in calls ticks "line feeds" "all seven calls" joins changes loads arrivals "refused arrivals" "ticks of 64 private clients" \
         "ticks with nobody" "lines without a form" "one line" "an empty script"; do
         script "$name" >"$text" || true # head stops reading before the end
@@ -179,21 +212,13 @@ scripts() {
 }
 
 check_plain
-if [ -z "$only_scripts" ]; then
+if [ "$only" != scripts ]; then
     find_proved
     build
-    "$out/harness" time >"$out/time.md" # stops here if the sums differ
-    echo "Time:"; echo; cat "$out/time.md"; echo
-    echo "Instructions:"; echo; count_all | tee "$out/instructions.md"; echo
-    echo "Depth 32 over depth 1:"; echo
-    {
-        echo "| sequence | of | proved | plain |"
-        echo "|---|---|---:|---:|"
-        depth_of "$out/time.md" time
-        depth_of "$out/instructions.md" instructions
-    } | tee "$out/depth.md"
+    [ "$only" = emptying ] || { calls; echo; }
+    emptying
 fi
-if [ -z "$stub" ]; then
+if [ -z "$stub" ] && [ "$only" != emptying ]; then
     echo; echo "Scripts, from the start of the program to its end:"; echo
     scripts | tee "$out/scripts.md"
 fi

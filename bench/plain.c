@@ -1,4 +1,4 @@
-/* The slot core of paper 01, with S-1 and S-4 of paper 02, in plain C. Nothing is on the heap, and every call but join, change
+/* The slot core of paper 01, with S-1, S-4 and S-9 of paper 02, in plain C. Nothing is on the heap, and every call but open, change
    and leave takes constant time, besides one walk over marks in a draw and one in the refill. */
 #include "plain.h"
 

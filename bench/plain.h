@@ -1,5 +1,5 @@
-/* The slot core of a shared gateway (paper 01, with S-1 of paper 02) and the fair rates of S-8, in plain C: the yardstick of the
-   benchmark.
+/* The slot core of a shared gateway (paper 01, with S-1, S-4 and S-9 of paper 02) and the fair rates of S-8, in plain C: the
+   yardstick of the benchmark.
    Every call but tick answers 0 for accepted or the number of the first check that failed. */
 #ifndef PLAIN_H
 #define PLAIN_H
@@ -7,11 +7,11 @@
 #include <stdbool.h>
 #include <stdint.h>
 
-enum {
-    PLAIN_CLIENTS = 64,
-    PLAIN_DEPTH = 32, /* places of each id; place p belongs to id p / 32 */
-    PLAIN_PLACES = PLAIN_CLIENTS * PLAIN_DEPTH,
-};
+#define PLAIN_DEPTH 128 /* places of each id; place p belongs to id p / PLAIN_DEPTH */
+
+enum { PLAIN_CLIENTS = 64, PLAIN_PLACES = PLAIN_CLIENTS * PLAIN_DEPTH };
+
+_Static_assert(PLAIN_DEPTH <= UINT8_MAX && PLAIN_PLACES <= UINT16_MAX, "a count or a place does not fit");
 
 enum { PLAIN_SHARES = 1024 };
 
@@ -42,8 +42,8 @@ typedef struct {
     int32_t rate[PLAIN_CLIENTS];
     int32_t cap[PLAIN_CLIENTS]; /* burst * 1024; 0 but for the indifferent */
     uint8_t pool[PLAIN_CLIENTS];
-    uint8_t head[PLAIN_CLIENTS];  /* ring place of the first packet, 0..31 */
-    uint8_t count[PLAIN_CLIENTS]; /* packets waiting, 0..32 */
+    uint8_t head[PLAIN_CLIENTS];  /* ring place of the first packet, below PLAIN_DEPTH */
+    uint8_t count[PLAIN_CLIENTS]; /* packets waiting, at most PLAIN_DEPTH */
     plain_packet packet[PLAIN_PLACES];
 
     /* Discipline 0 only: the places of indifferent packets in order of acceptance,

@@ -1,9 +1,13 @@
 /* The benchmark's calls on the plain core. */
 #include "sequence.h"
 
+#include <assert.h>
+
 #include "plain.h"
 
 enum { BURST = 64, SHORTEST = 64, LINK = 1024, SEED = 1 };
+/* In emptyings the clients to be emptied have these rates together, and each of the others has this one. */
+enum { OWN_RATES = 768, CROWD_RATE = 5 };
 
 /* What the sum takes for an answer other than a slot. */
 static inline uint64_t code_of(uint32_t refused) { return refused == 0 ? 1 : 2 + (uint64_t)refused; }
@@ -67,12 +71,17 @@ static void join_all(plain_core *core, uint32_t clients, uint32_t indifferents) 
     for (uint32_t id = indifferents; id < clients; id++) plain_join(core, id, PLAIN_PRIVATE, rate, 0);
 }
 
+/* One packet less than the depth into each queue, one client after the other. */
+static void fill_queues(plain_core *core, uint32_t clients, uint32_t depth) {
+    for (uint32_t id = 0; id < clients; id++)
+        for (uint32_t i = 1; i < depth; i++) plain_arrive(core, id, id, SHORTEST);
+}
+
 static void set_up(plain_core *core, uint32_t clients, uint32_t indifferents, uint32_t discipline,
                    uint32_t depth) {
     plain_open(core, LINK, discipline, SEED);
     join_all(core, clients, indifferents);
-    for (uint32_t id = 0; id < clients; id++)
-        for (uint32_t i = 1; i < depth; i++) plain_arrive(core, id, id, SHORTEST);
+    fill_queues(core, clients, depth);
 }
 
 INLINED uint64_t plain_run(uint32_t privates, uint32_t indifferents, uint32_t discipline, uint32_t depth,
@@ -102,4 +111,59 @@ uint64_t plain_fair(uint32_t count, uint32_t threshold, uint32_t highest, uint32
         demands[i] = 1;
     }
     return run_fair(ids, demands, rates, count, threshold, highest, rounds);
+}
+
+static inline uint32_t burst_of(uint32_t type) { return type == PLAIN_INDIFFERENT ? BURST : 0; }
+
+/* The crowd, of the other ids, waits for full buckets. Then the clients to be emptied join. Of the packets that come to every
+   queue the crowd takes a bucketful; an indifferent client's bucket is empty then, and fills while those go out, since they were
+   accepted before its own. */
+static uint64_t set_up_emptying(plain_core *core, uint32_t clients, uint32_t type, uint32_t rate, uint32_t each,
+                                uint32_t filling) {
+    uint32_t ticks = BURST * LINK / CROWD_RATE + 1;
+    for (uint32_t id = clients; id < PLAIN_CLIENTS; id++) plain_join(core, id, PLAIN_INDIFFERENT, CROWD_RATE, BURST);
+    run_slots(core, PLAIN_CLIENTS, PLAIN_CLIENTS + ticks, ticks);
+    for (uint32_t id = 0; id < clients; id++) plain_join(core, id, type, rate, burst_of(type));
+    fill_queues(core, PLAIN_CLIENTS, each + 1);
+    return run_slots(core, 0, clients, filling);
+}
+
+static uint64_t leave_ids(plain_core *core, uint32_t end) {
+    uint64_t sum = 0;
+    for (uint32_t id = 0; id < end; id++) sum += code_of(plain_leave(core, id));
+    return sum;
+}
+
+static uint64_t change_ids(plain_core *core, uint32_t end, uint32_t to, uint32_t rate) {
+    uint64_t sum = 0;
+    for (uint32_t id = 0; id < end; id++) sum += code_of(plain_change(core, id, to, rate, burst_of(to)));
+    return sum;
+}
+
+/* Every queue is empty before the rounds, or full. Behind them each client gets an arrival, with a tick: the answers tell who has
+   room, and what was written is read. */
+INLINED uint64_t plain_emptying(uint32_t clients, uint32_t type, uint32_t each, uint32_t filling, uint32_t to, uint32_t end,
+                                uint32_t rounds) {
+    plain_core core = {0};
+    uint32_t rate = OWN_RATES / clients;
+    plain_open(&core, LINK, 0, SEED);
+    uint64_t sum = set_up_emptying(&core, clients, type, rate, each, filling);
+    for (uint32_t id = 0; id < clients; id++) assert(core.count[id] == (each == 0 ? 0 : PLAIN_DEPTH));
+    plain_core kept = core;
+    for (uint32_t k = 0; k < rounds; k++) {
+        core = kept;
+        sum += to == PLAIN_INACTIVE ? leave_ids(&core, end) : change_ids(&core, end, to, rate);
+    }
+    return sum + run_slots(&core, 0, clients, clients);
+}
+
+/* Behind the rounds come some calls that read what was written. */
+INLINED uint64_t plain_opening(uint32_t rounds) {
+    plain_core core = {0};
+    uint64_t sum = 0;
+    plain_open(&core, LINK, 0, SEED);
+    for (uint32_t k = 0; k < rounds; k++) sum += code_of(plain_open(&core, LINK, 0, k + 1));
+    for (uint32_t id = 0; id < PLAIN_CLIENTS; id++) plain_join(&core, id, PLAIN_PRIVATE, 1, 0);
+    fill_queues(&core, PLAIN_CLIENTS, 2);
+    return sum + run_slots(&core, 0, PLAIN_CLIENTS, PLAIN_CLIENTS);
 }

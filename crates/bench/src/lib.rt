@@ -9,8 +9,9 @@ use tables::STOCKS;
 use tables::STORE;
 use tables::TERMS;
 ghost use mathlib.Core.Path.{_≡_};
-ghost use Prim.Native.Nat.{_≤_, _<_};
+ghost use Prim.Native.Nat.{_*_, _≤_, _<_};
 ghost use lib.ListN.{length};
+ghost use Rattle.definitions.specs.Sizes.{ids};
 ghost use Rattle.tables.specs.Tables.{tables};
 ghost use Rattle.tables.specs.Invariant.{Valid};
 
@@ -155,7 +156,7 @@ fn fill_queues(
     at
 }
 
-fn add(sum: u64, answer: Answer) -> u64 {
+pub fn add(sum: u64, answer: Answer) -> u64 {
     std::num::wrapping_add_u64(sum, code(answer))
 }
 
@@ -329,7 +330,7 @@ fn traffic_round(
     }
 }
 
-fn traffic_rounds(
+pub fn traffic_rounds(
     control: Control,
     terms: &mut [u32; TERMS],
     stocks: &mut [u32; STOCKS],
@@ -369,7 +370,7 @@ fn traffic_rounds(
 // rate 1024 / n, a bucket is full after 64 * n rounds where n divides 1024, as in every sequence. Their arrivals are refused, for
 // ids that nobody has. The private clients join in the second stage, so that no tick of the first makes a draw.
 fn stage_of(k: u32, n: u32, indifferents: u32, each: u32, rounds: u32) -> Stage
-    requires { ⌜ (1 ≤ n) × (n ≤ 128) ⌝ }
+    requires { ⌜ (1 ≤ n) × (n ≤ 2 * ids) ⌝ }
     ensures { λ r. ⌜ r .from < r .to ⌝ }
 {
     let rate = 1024 / n;
@@ -400,7 +401,7 @@ fn stage_of(k: u32, n: u32, indifferents: u32, each: u32, rounds: u32) -> Stage
     }
 }
 
-fn run_stage(
+pub fn run_stage(
     control: Control,
     terms: &mut [u32; TERMS],
     stocks: &mut [u32; STOCKS],
@@ -454,7 +455,7 @@ fn run_stages(
     each: u32,
     rounds: u32,
 ) -> Tally
-    requires { ⌜ Valid control (tables (now terms) (now stocks) (now handles) (now lengths) (now links)) × (1 ≤ n) × (n ≤ 128) ⌝ }
+    requires { ⌜ Valid control (tables (now terms) (now stocks) (now handles) (now lengths) (now links)) × (1 ≤ n) × (n ≤ 2 * ids) ⌝ }
     ensures { λ r. ⌜ Valid (r .control)
         (tables (now (terms .exit)) (now (stocks .exit)) (now (handles .exit)) (now (lengths .exit)) (now (links .exit))) ⌝ }
 {
@@ -482,10 +483,10 @@ pub extern "C" fn bench_run(
     mode: u32,
     rounds: u32,
 ) -> u64 {
-    if 64 < privates {
+    if IDS < privates {
         return 0;
     }
-    if 64 < indifferents {
+    if IDS < indifferents {
         return 0;
     }
     let n = privates + indifferents;
@@ -495,7 +496,7 @@ pub extern "C" fn bench_run(
     if depth < 1 {
         return 0;
     }
-    if 64 < mode {
+    if IDS < mode {
         return 0;
     }
     let mut terms = [0; TERMS];

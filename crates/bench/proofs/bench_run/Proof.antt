@@ -1,6 +1,7 @@
 -- `bench::bench_run` meets its contract: each step takes up a valid core. Assumes nothing.
 use native.Mathlib.Omega.{arith}
 use borrow.Author.Needs.{needs}
+use Rattle.definitions.specs.Sizes.{ids}
 use Rattle.bench.proofs.bench_run.Statement.{statement}
 use Rattle.bench.proofs.bench_run.Tie as tie
 
@@ -32,6 +33,7 @@ choose-requires : tie.Need-choose-requires
 choose-requires c κs = search needs
 
 run-stages-requires : tie.Need-run-stages-requires
+unfolding ids
 run-stages-requires c κs = search needs
 
 returns-6 : tie.Need-returns-6
