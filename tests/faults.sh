@@ -5,14 +5,15 @@
 #   tests/faults.sh BUILD CASES    in the root of the repository, after the build of tests/run; needs target/bin/fair for the cases. CASES is the
 #                                  folder of the edition's cases
 # `compare`, the cases and the long run must catch 1 to 6, 9 and 9b, `pairs` the first four (the others cannot be seen by pairs, see
-# src/pairs.rs), `stretches` all of these but 5b (which needs longer queues than fit a stretch). What a greedy client gets is wrong with 5
-# alone: the other faults take no token from a client that meets no 14. More than a client that switches has bought comes of 9 alone, a full
-# bucket after a join and a change; with 9b, where a change that keeps the type empties the bucket, it is less. The wrong figures, 7 and 7b,
-# are in no printout: of these tests `sure` and the cases alone see them, and `sure` by the picks alone too, which have to be fewer than such
-# a figure. It sees 3 to 5b, 9 and 9b as well, since packets and levels are in the figure, but not by the picks: these are no fewer than those
-# programs themselves are sure of. Who is drawn (1, 2 and 6) is not in the figure. 8 to 8c are of the program `fair`: the test `fair` sees
-# them, and the sentences alone do too, each by another one. The three that are proved hold under 8, whose left shares go to the highest
-# ids, and speak of no refusal, so not of 8c, an empty list that is refused; the words of the request on who gets what is left, and on 22, do.
+# src/pairs.rs), `stretches` all of these but 5b, for which it is not run: whether it sees that hangs on how many places an id has, since an
+# indifferent client's queue has to get full in one script. What a greedy client gets is wrong with 5 alone: the other faults take no token
+# from a client that meets no 14. More than a client that switches has bought comes of 9 alone, a full bucket after a join and a change; with
+# 9b, where a change that keeps the type empties the bucket, it is less. The wrong figures, 7 and 7b, are in no printout: of these tests
+# `sure` and the cases alone see them, and `sure` by the picks alone too, which have to be fewer than such a figure. It sees 3 to 5b, 9 and 9b
+# as well, since packets and levels are in the figure, but not by the picks: these are no fewer than those programs themselves are sure of.
+# Who is drawn (1, 2 and 6) is not in the figure. 8 to 8c are of the program `fair`: the test `fair` sees them, and the sentences alone do
+# too, each by another one. The three that are proved hold under 8, whose left shares go to the highest ids, and speak of no refusal, so not
+# of 8c, an empty list that is refused; the words of the request on who gets what is left, and on 22, do.
 # Prints a line for each; the printouts stay in BUILD/fault-N.
 build=$1 edition=$2 passed=0 failed=0 millions=10 # of calls, of which the sixth shows 5b
 
@@ -73,13 +74,13 @@ for fault in 1 2 3 4 5 5b 6 7 7b 9 9b; do
     in_printouts=caught scripts=2000 in_pairs=caught in_stretches=caught in_counts="not seen" in_figures=caught in_picks="not seen"
     in_spells="not seen"
     case $fault in 5* | 6 | 7* | 9*) in_pairs="not seen" ;; esac
-    case $fault in 5b | 7*) in_stretches="not seen" ;; 5) in_counts=caught ;; 9) in_spells=caught ;; esac
+    case $fault in 7*) in_stretches="not seen" ;; 5) in_counts=caught ;; 9) in_spells=caught ;; esac
     case $fault in 1 | 2 | 6) in_figures="not seen" ;; 7*) in_printouts="not seen" scripts=300 in_picks=caught ;; esac
     try_cases $fault
     try $fault compare "$in_printouts" 1 $scripts
     try $fault pairs "$in_pairs" 1 300
     try $fault switching "$in_spells" 1 300
-    try $fault stretches "$in_stretches" 1 1
+    [ $fault = 5b ] || try $fault stretches "$in_stretches" 1 1
     try $fault sure "$in_figures" 1 300
     try_alone $fault sure "the picks alone" "$in_picks" fewer 1 100
     case $fault in 7*) continue ;; esac # no long run asks for a figure
