@@ -38,8 +38,8 @@ typedef struct {
 #define TEXT_OF(name) TEXT(name)
 #define FULL TEXT_OF(PLAIN_DEPTH)
 
-#define CALLS(text, p, i, d, places, m) \
-    {.name = text, .privates = p, .indifferents = i, .discipline = d, .depth = places, .mode = m}
+#define CALLS(text, p, i, d, deep, m) \
+    {.name = text, .privates = p, .indifferents = i, .discipline = d, .depth = deep, .mode = m}
 #define LISTS(text, n, limit, most) {.name = text, .demands = n, .threshold = limit, .highest = most}
 #define OPENS(text) {.name = text, .opens = true}
 /* The clients of all ids, with nothing waiting or, if private, with full queues. Full queues of indifferent clients have CROWDED of

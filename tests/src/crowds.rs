@@ -162,8 +162,8 @@ impl Crowd<'_> {
         self.arrives(self.id, past);
     }
 
-    /// A place is free again with each packet that goes, and each tick has an arrival behind it. Where the others go first, these are the
-    /// client's own packets at once, and its tokens end soon.
+    /// A place is free again with each packet that goes, and each tick has an arrival behind it. Where the others leave first, or become
+    /// private, the client's own packets go at once, and its tokens end soon.
     fn one_by_one(&mut self) {
         if self.random.one_in(2) {
             for id in self.others.clone() {

@@ -1,5 +1,5 @@
--- The cases marked P (paper 01, "Cases marked P"), cases of the draw's throws (paper 02, S-1) and of buckets that begin empty
--- (S-4), and the printout of paper 01's script (paper 01, "Script and printout") as S-4 amends it.
+-- The cases marked P (paper 01, "Cases marked P"; P4 as paper 02's S-9 amends it), cases of the draw's throws (S-1) and of
+-- buckets that begin empty (S-4), and the printout of paper 01's script (paper 01, "Script and printout") as S-4 amends it.
 -- A case is what the definitions give, beside what the paper says. A further case is one more entry of the list.
 use Prim.Native.Nat.{ℕ, zero, suc, _+_, _-_, _*_, _/_}
 use mathlib.Core.Path.{_≡_}
@@ -79,8 +79,9 @@ unfoldable pub ofOthers : ℕ → (ℕ → List Event) → List Event
 ofOthers zero calls = []
 ofOthers (suc n) calls = ofOthers n calls ++ calls (4 + n)
 
--- For P4, client 3 with one place left and a full bucket, where a bucket may hold fewer packets than a queue: others, enough of
--- them, hand in a full bucket each before it does. While their packets go out, its own bucket gets nearly a packet a tick.
+-- For P4, client 3 with one place left and a full bucket, where a bucket may hold fewer packets than a queue: others hand in a
+-- full bucket each before it does, or as many packets as they have places. While these go out, its own bucket gets nearly a
+-- packet a tick.
 unfoldable pub almostFull : Core
 almostFull =
     let others = places / burstLimit + 2 in

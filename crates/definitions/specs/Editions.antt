@@ -1,6 +1,6 @@
 -- Editions of the core (paper 02, S-9): "Every id now has 128 places, and 14 comes with 128 waiting." The edition of n places has
--- the calls as they are defined, but that 14 comes with n waiting. Who never meets 14 in an edition cannot tell it from one with
--- more places. Of one fewer than there are it can be told (`fullEarly`, specs/WrongVersions).
+-- the calls as they are defined, but that 14 comes with n waiting. While nobody is refused with 14 in an edition, nobody can tell
+-- it from one with more places. Of one place fewer than there are it can be told (`fullEarly`, specs/WrongVersions).
 use Prim.Native.Nat.{ℕ, _+_}
 use mathlib.Core.Path.{_≡_}
 use mathlib.Core.Bool.{false}

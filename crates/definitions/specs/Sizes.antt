@@ -13,7 +13,7 @@ handleLimit = 4294967295
 unfoldable pub ids : ℕ
 ids = 64
 
--- "Every id now has 128 places" (paper 02, S-9). The code has the number as PLACES, and no other file names it.
+-- "Every id now has 128 places" (paper 02, S-9). The code has it as PLACES; no other definition, proof or line of code names it.
 unfoldable pub places : ℕ
 places = 128
 

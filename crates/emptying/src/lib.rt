@@ -1,5 +1,5 @@
 // What no round of `bench` has, exported to C: opens, and leaves and changes of kind with packets waiting. It stands in a crate
-// of its own, since the compiler draws a tick into the rounds of `bench` only where nothing else there calls them.
+// of its own, since the compiler inlines a tick into the rounds of `bench` only where nothing else there calls them.
 use bench::Stage;
 use bench::Tally;
 use definitions::BURST_LIMIT;
