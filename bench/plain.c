@@ -43,7 +43,8 @@ static inline uint32_t place_of(uint32_t id, uint32_t ring) {
 
 static inline void queue_push(plain_core *core, uint32_t id, plain_packet packet, bool indifferent) {
     uint32_t place = place_of(id, (uint32_t)core->head[id] + core->count[id]);
-    core->packet[place] = packet;
+    core->handle[place] = packet.handle;
+    core->length[place] = packet.length;
     if (indifferent) {
         if (core->count[id] == 0) core->waiting_rates += (uint32_t)core->rate[id];
         if (core->discipline == 0) order_push(core, place);
@@ -60,7 +61,7 @@ static inline plain_packet queue_pop(plain_core *core, uint32_t id, bool indiffe
         if (indifferent) core->waiting_rates -= (uint32_t)core->rate[id];
     }
     if (indifferent && core->discipline == 0) order_unlink(core, place);
-    return core->packet[place];
+    return (plain_packet){core->handle[place], core->length[place]};
 }
 
 /* Takes out all that the id holds, its level too, and its marks and rate. */
@@ -170,7 +171,7 @@ uint32_t plain_load(plain_core *core, uint32_t id, uint32_t dummies) {
     return 0;
 }
 
-uint32_t plain_arrive(plain_core *core, uint32_t id, uint32_t handle, uint32_t length) {
+uint32_t plain_arrive(plain_core *core, uint32_t id, uint64_t handle, uint32_t length) {
     if (core->threshold == 0) return 19;
     if (id >= PLAIN_CLIENTS) return 4;
     if (!active(core, id)) return 5;
@@ -227,14 +228,14 @@ static inline void send_indifferent(plain_core *core, uint64_t ready, plain_slot
     uint32_t id = core->discipline == 0 ? core->next[ORDER_END] / PLAIN_DEPTH
                                         : draw(core, ready, core->waiting_rates);
     plain_packet packet = queue_pop(core, id, true);
-    *slot = (plain_slot){PLAIN_REAL, id, packet.handle, packet.length, 0};
+    *slot = (plain_slot){packet.handle, PLAIN_REAL, id, packet.length, 0};
 }
 
 static inline void send_private(plain_core *core, plain_slot *slot) {
     uint32_t id = draw(core, core->private, core->private_rates);
     if (core->count[id] != 0) {
         plain_packet packet = queue_pop(core, id, false);
-        *slot = (plain_slot){PLAIN_REAL, id, packet.handle, packet.length,
+        *slot = (plain_slot){packet.handle, PLAIN_REAL, id, packet.length,
                              MAX_LENGTH - packet.length};
     } else if (core->pool[id] != 0) {
         core->pool[id]--;

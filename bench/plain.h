@@ -1,4 +1,4 @@
-/* The slot core of a shared gateway (paper 01, with S-1, S-4 and S-9 of paper 02) and the fair rates of S-8, in plain C: the
+/* The slot core of a shared gateway (paper 01, with S-1, S-4, S-6 and S-9 of paper 02) and the fair rates of S-8, in plain C: the
    yardstick of the benchmark.
    Every call but tick answers 0 for accepted or the number of the first check that failed. */
 #ifndef PLAIN_H
@@ -21,11 +21,13 @@ enum plain_outcome { PLAIN_NONE, PLAIN_REAL, PLAIN_DUMMY, PLAIN_IDLE };
 
 /* A slot's outcome; id is set but for none, the packet only for real. */
 typedef struct {
-    uint32_t outcome, id, handle, length, padding;
+    uint64_t handle;
+    uint32_t outcome, id, length, padding;
 } plain_slot;
 
 typedef struct {
-    uint32_t handle, length;
+    uint64_t handle;
+    uint32_t length;
 } plain_packet;
 
 /* A core; all zero bytes make an unopened one. */
@@ -44,7 +46,8 @@ typedef struct {
     uint8_t pool[PLAIN_CLIENTS];
     uint8_t head[PLAIN_CLIENTS];  /* ring place of the first packet, below PLAIN_DEPTH */
     uint8_t count[PLAIN_CLIENTS]; /* packets waiting, at most PLAIN_DEPTH */
-    plain_packet packet[PLAIN_PLACES];
+    uint64_t handle[PLAIN_PLACES]; /* apart from the lengths, so that no place has unused bytes */
+    uint32_t length[PLAIN_PLACES];
 
     /* Discipline 0 only: the places of indifferent packets in order of acceptance,
        a circle through the extra place PLAIN_PLACES, which is its end. */
@@ -56,7 +59,7 @@ uint32_t plain_join(plain_core *core, uint32_t id, uint32_t type, uint32_t rate,
 uint32_t plain_change(plain_core *core, uint32_t id, uint32_t type, uint32_t rate, uint32_t burst);
 uint32_t plain_leave(plain_core *core, uint32_t id);
 uint32_t plain_load(plain_core *core, uint32_t id, uint32_t dummies);
-uint32_t plain_arrive(plain_core *core, uint32_t id, uint32_t handle, uint32_t length);
+uint32_t plain_arrive(plain_core *core, uint32_t id, uint64_t handle, uint32_t length);
 /* Answers 0 and fills the slot, or 19. */
 uint32_t plain_tick(plain_core *core, plain_slot *slot);
 /* Answers 0 and gives each demand its rate, or 22 and gives none. */

@@ -9,23 +9,24 @@ enum { TEXT_LIMIT = 60000, ROOM = 780064, NUMBERS = 3 };
 
 static char text[65536], out[ROOM];
 
-/* Reads what a form's pattern says, # for a number; answers 0, 16 or 17, shape before size. */
-static int match(const char *pattern, const char *at, const char *end, uint32_t *numbers) {
+/* Reads what a form's pattern says, # for a number and @ for a handle; answers 0, 16 or 17, shape before size. */
+static int match(const char *pattern, const char *at, const char *end, uint64_t *numbers) {
     int large = 0;
     for (; *pattern; pattern++) {
-        if (*pattern != '#') {
+        if (*pattern != '#' && *pattern != '@') {
             if (at == end || *at++ != *pattern) return 16;
             continue;
         }
         const char *first = at;
         uint64_t value = 0;
+        int past = 0;
         while (at < end && *at >= '0' && *at <= '9') {
-            value = value * 10 + (uint64_t)(*at++ - '0');
-            if (value > UINT32_MAX) value = (uint64_t)UINT32_MAX + 1;
+            past |= __builtin_mul_overflow(value, 10, &value);
+            past |= __builtin_add_overflow(value, (uint64_t)(*at++ - '0'), &value);
         }
         if (at == first || (*first == '0' && at - first > 1)) return 16;
-        large |= value > UINT32_MAX;
-        *numbers++ = (uint32_t)value;
+        large |= past | (*pattern == '#' && value > UINT32_MAX);
+        *numbers++ = value;
     }
     if (at != end) return 16;
     return large ? 17 : 0;
@@ -37,8 +38,8 @@ static char *put(char *to, const char *word) {
     return to + length;
 }
 
-static char *put_number(char *to, uint32_t number) {
-    char digits[10];
+static char *put_number(char *to, uint64_t number) {
+    char digits[20];
     int n = 0;
     do {
         digits[n++] = (char)('0' + number % 10);
@@ -58,7 +59,7 @@ static char *put_slot(char *to, const plain_slot *slot) {
     to = put(to, words[slot->outcome]);
     if (slot->outcome != PLAIN_NONE) to = put_number(to, slot->id);
     if (slot->outcome == PLAIN_REAL) {
-        const uint32_t fields[] = {slot->handle, slot->length, slot->padding};
+        const uint64_t fields[] = {slot->handle, slot->length, slot->padding};
         for (int i = 0; i < 3; i++) {
             *to++ = ' ';
             to = put_number(to, fields[i]);
@@ -69,11 +70,12 @@ static char *put_slot(char *to, const plain_slot *slot) {
 
 /* The forms that begin with the line's second byte; the first that fits is carried out. */
 static char *line(plain_core *core, const char *at, const char *end, char *to) {
-    uint32_t n[NUMBERS];
+    uint64_t n[NUMBERS]; /* none but a handle has more than 32 bits where its form fits */
     int bad = 16;
     switch (end - at > 3 ? at[1] : 0) {
     case 'a':
-        if ((bad = match("(arrive # (packet # #))", at, end, n)) == 0) return put_answer(to, plain_arrive(core, n[0], n[1], n[2]));
+        if ((bad = match("(arrive # (packet @ #))", at, end, n)) == 0)
+            return put_answer(to, plain_arrive(core, n[0], n[1], n[2]));
         break;
     case 't':
         if ((bad = match("(tick)", at, end, n)) == 0) {

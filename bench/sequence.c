@@ -16,7 +16,7 @@ static inline uint64_t code_of_slot(const plain_slot *slot) {
     uint64_t id = slot->id;
     switch (slot->outcome) {
     case PLAIN_REAL:
-        return 1000 + id * 7 + (uint64_t)slot->handle * 3 + (uint64_t)slot->length * 5 +
+        return 1000 + id * 7 + slot->handle * 3 + (uint64_t)slot->length * 5 +
                (uint64_t)slot->padding * 11;
     case PLAIN_DUMMY:
         return 500 + id;

@@ -1,9 +1,9 @@
 #!/bin/sh
 # Shows that the tests can fail: builds the second program with each fault of paper 01's list, with the plain remainder that S-1 of
-# paper 02 does away with, with the full buckets that its S-4 does away with, with two wrong figures for S-14 and with three faults against
-# S-8, and runs the tests on it.
-#   tests/faults.sh BUILD CASES    in the root of the repository, after the build of tests/run; needs target/bin/fair for the cases. CASES is the
-#                                  folder of the edition's cases
+# paper 02 does away with, with the full buckets that its S-4 does away with, with two wrong figures for S-14, with three faults against
+# S-8 and with three against S-6, and runs the tests on it.
+#   tests/faults.sh BUILD CASES HANDLES    in the root of the repository, after the build of tests/run; needs target/bin/fair for the cases.
+#                                          CASES and HANDLES are the folders of the edition's cases
 # `compare`, the cases and the long run must catch 1 to 6, 9 and 9b, `pairs` the first four (the others cannot be seen by pairs, see
 # src/pairs.rs), `stretches` all of these but 5b, for which it is not run: whether it sees that hangs on how many places an id has, since an
 # indifferent client's queue has to get full in one script. What a greedy client gets is wrong with 5 alone: the other faults take no token
@@ -14,8 +14,11 @@
 # Who is drawn (1, 2 and 6) is not in the figure. 8 to 8c are of the program `fair`: the test `fair` sees them, and the sentences alone do
 # too, each by another one. The three that are proved hold under 8, whose left shares go to the highest ids, and speak of no refusal, so not
 # of 8c, an empty list that is refused; the words of the request on who gets what is left, and on 22, do.
+# 10 to 10c are of handles: kept in 32 bits, refused above 32 bits, and wrapped beyond 64. In the edition of short handles 10 and 10b change
+# nothing. Pairs run one program twice, and see 10c alone, under which lines that are no call, and differ in the two texts, are taken for
+# calls. The calls of a long run are no text, so it sees 10 alone; its stretches are, and see 10b too.
 # Prints a line for each; the printouts stay in BUILD/fault-N.
-build=$1 edition=$2 passed=0 failed=0 millions=10 # of calls, of which the sixth shows 5b
+build=$1 edition=$2 handles=$3 passed=0 failed=0 millions=10 # of calls, of which the sixth shows 5b
 
 # Prints what became of a fault.
 judge() { # fault, test, what was found, what should be, the test's own words
@@ -42,7 +45,7 @@ try() { # fault, test, caught or not seen, the test's arguments
 
 # The same for the cases, which say a line for each: of interest is the first that the planted program fails.
 try_cases() { # fault
-    "$build/cases" "$planted" target/bin/fair tests/cases/*.case "$edition"/*.case >"$folder/cases.txt"
+    "$build/cases" "$planted" target/bin/fair tests/cases/*.case "$edition"/*.case "$handles"/*.case >"$folder/cases.txt"
     case "$? $(grep -m 1 "^failed: .* of slots is" "$folder/cases.txt")" in
     "0 ") judge "$1" "the cases" "not seen" caught "$(tail -n 1 "$folder/cases.txt")" ;;
     "1 failed: "*) judge "$1" "the cases" caught caught "$(sed -n "s/^failed: //p" "$folder/cases.txt" | head -n 1)" ;;
@@ -68,6 +71,16 @@ plant() { # fault, source, name
     rustc -O --edition 2021 "$folder/src/$2.rs" -o "$planted" || exit 2
 }
 
+# The same for a long run of the faulty program, against one of the right one.
+try_long() { # fault, caught or not seen
+    rustc -O --edition 2021 "$folder/src/long.rs" -o "$folder/long" || exit 2
+    "$folder/long" 1 $millions >"$folder/long.txt"
+    if [ "$(cat "$build/long.txt" "$folder/long.txt" | wc -l)" != $((2 * millions)) ]; then found="not tried"
+    elif cmp "$build/long.txt" "$folder/long.txt" >"$folder/cmp.txt"; then found="not seen"
+    else found=caught; fi
+    judge $1 "the long run" "$found" "$2" "$(sed 's/.*, //' "$folder/cmp.txt")"
+}
+
 "$build/long" 1 $millions >"$build/long.txt"
 for fault in 1 2 3 4 5 5b 6 7 7b 9 9b; do
     plant $fault main slots
@@ -84,18 +97,23 @@ for fault in 1 2 3 4 5 5b 6 7 7b 9 9b; do
     try $fault sure "$in_figures" 1 300
     try_alone $fault sure "the picks alone" "$in_picks" fewer 1 100
     case $fault in 7*) continue ;; esac # no long run asks for a figure
-    for program in long greedy; do
-        rustc -O --edition 2021 "$folder/src/$program.rs" -o "$folder/$program" || exit 2
-    done
-    "$folder/long" 1 $millions >"$folder/long.txt"
-    if [ "$(cat "$build/long.txt" "$folder/long.txt" | wc -l)" != $((2 * millions)) ]; then found="not tried"
-    elif cmp "$build/long.txt" "$folder/long.txt" >"$folder/cmp.txt"; then found="not seen"
-    else found=caught; fi
-    judge $fault "the long run" "$found" caught "$(sed 's/.*, //' "$folder/cmp.txt")"
+    rustc -O --edition 2021 "$folder/src/greedy.rs" -o "$folder/greedy" || exit 2
+    try_long $fault caught
     if ! "$folder/greedy" 1 1 >"$folder/greedy.txt"; then found="not tried"
     elif tests/exact.sh <"$folder/greedy.txt" >"$folder/exact.txt"; then found="not seen"
     else found=caught; fi
     judge $fault "the count of a greedy client" "$found" "$in_counts" "$(cat "$folder/exact.txt")"
+done
+for fault in 10 10b 10c; do
+    case $fault$handles in 10tests/handles/4294967295 | 10btests/handles/4294967295) continue ;; esac
+    plant $fault main slots
+    in_pairs="not seen" in_stretches=caught in_calls="not seen"
+    case $fault in 10) in_calls=caught ;; 10c) in_pairs=caught in_stretches="not seen" ;; esac
+    try_cases $fault
+    try $fault compare caught 1 2000
+    try $fault pairs "$in_pairs" 1 300
+    try $fault stretches "$in_stretches" 1 1
+    try_long $fault "$in_calls"
 done
 for fault in 8 8b 8c; do
     plant $fault fair_main fair

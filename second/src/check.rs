@@ -7,22 +7,22 @@
 
 use crate::core::{even_draw, xorshift32, Answer, Call, Core, Draw, Opened, Outcome, INDIFFERENT,
                   PLACES, PRIVATE};
-use crate::maker::{call, Maker, Time};
+use crate::maker::{arrival, call, Maker, Time};
 use crate::script::{number, parse, run, sure, Line};
 
 /// As many packets as an id has places.
 pub const FULL: u32 = PLACES as u32;
 
-fn printed(text: &str) -> String {
+pub fn printed(text: &str) -> String {
     String::from_utf8(run(text.as_bytes())).unwrap()
 }
 
 /// The last line printed, without its line feed.
-fn last(text: &str) -> String {
+pub fn last(text: &str) -> String {
     printed(text).lines().last().unwrap().to_string()
 }
 
-fn open(core: &mut Core, threshold: u32, discipline: u32, seed: u32) {
+pub fn open(core: &mut Core, threshold: u32, discipline: u32, seed: u32) {
     let call = Call::Open { threshold, discipline, seed };
     assert_eq!(core.perform(&call), Answer::Accepted);
 }
@@ -35,7 +35,7 @@ pub fn change(core: &mut Core, id: u32, kind: u32, rate: u32, burst: u32) -> Ans
     core.perform(&Call::Change { id, kind, rate, burst })
 }
 
-pub fn arrive(core: &mut Core, id: u32, handle: u32, length: u32) -> Answer {
+pub fn arrive(core: &mut Core, id: u32, handle: u64, length: u32) -> Answer {
     core.perform(&Call::Arrive { id, handle, length })
 }
 
@@ -169,13 +169,13 @@ fn p4_places() {
     assert!(PLACES != 32 || (n, left) == (0, 32768));
     for more in 0..=FULL - n {
         assert_eq!((waiting(&core, 9), level(&core, 9)), (FULL, left + more * 1022));
-        assert_eq!(arrive(&mut core, 9, FULL, 64), Answer::Refused(14));
+        assert_eq!(arrive(&mut core, 9, 1, 64), Answer::Refused(14));
         assert_eq!((waiting(&core, 9), level(&core, 9)), (FULL, left + more * 1022));
         core.perform(&Call::Tick);
     }
     assert_eq!((waiting(&core, 9), level(&core, 9)), (FULL - 1, 65536)); // full again
-    assert_eq!(arrive(&mut core, 9, FULL, 64), Answer::Accepted);
-    assert_eq!(arrive(&mut core, 9, FULL + 1, 64), Answer::Refused(14));
+    assert_eq!(arrive(&mut core, 9, 2, 64), Answer::Accepted);
+    assert_eq!(arrive(&mut core, 9, 3, 64), Answer::Refused(14));
     assert_eq!((waiting(&core, 9), level(&core, 9)), (FULL, 63 * 1024));
 }
 
@@ -184,7 +184,7 @@ fn p4_places() {
 fn p4_private() {
     let mut core = core_of(&[(0, PRIVATE, 1024, 0)]);
     arrive_times(&mut core, 0, FULL);
-    assert_eq!(arrive(&mut core, 0, FULL, 64), Answer::Refused(14));
+    assert_eq!(arrive(&mut core, 0, 1, 64), Answer::Refused(14));
     assert_eq!(waiting(&core, 0), FULL);
 }
 
@@ -456,9 +456,8 @@ fn s1_users() {
         if kind == INDIFFERENT {
             ticks(&mut core, 7); // two tokens each, and no draw
         }
-        for id in [2, 5] {
-            assert_eq!(arrive(&mut core, id, id * 10, 1518), Answer::Accepted);
-            assert_eq!(arrive(&mut core, id, id * 10 + 1, 1518), Answer::Accepted);
+        for (id, handle) in [(2, 20), (2, 21), (5, 50), (5, 51)] {
+            assert_eq!(arrive(&mut core, id, handle, 1518), Answer::Accepted);
         }
         for (handle, generator) in [(20, 253983), (21, 4228382207)] {
             let outcome = Outcome::Real { id: 2, handle, length: 1518, padding: 0 };
@@ -507,8 +506,9 @@ struct Stretch {
 /// neither counts nor ends the offering.
 fn offer(core: &mut Core, most: u32) -> (u32, u32) {
     for accepted in 0..most {
-        assert_eq!(arrive(core, 9, accepted, 63), Answer::Refused(13));
-        if let Answer::Refused(number) = arrive(core, 9, accepted, 64) {
+        let handle = u64::from(accepted);
+        assert_eq!(arrive(core, 9, handle, 63), Answer::Refused(13));
+        if let Answer::Refused(number) = arrive(core, 9, handle, 64) {
             assert!(number == 14 || number == 15);
             return (accepted, number);
         }
@@ -566,9 +566,9 @@ fn some_others(core: &mut Core, n: u32) {
         4 => load(core, 12, 9),
         5 if n % 5 == 0 => core.perform(&Call::Leave { id: 3 }),
         6 if n % 7 == 0 => core.perform(&Call::Leave { id: 12 }),
-        7 | 8 => arrive(core, 12, n, 1000),
+        7 | 8 => arrive(core, 12, u64::from(n), 1000),
         9 => change(core, 3, INDIFFERENT, 300, 4),
-        _ => arrive(core, 3, n, 100),
+        _ => arrive(core, 3, u64::from(n), 100),
     };
 }
 
@@ -688,7 +688,7 @@ pub fn core_with_waiting(ids: [u32; 3], packets: u32) -> Core {
     core.perform(&Call::Tick);
     for handle in 2..packets {
         core.perform(&Call::Tick);
-        assert_eq!(arrive(&mut core, id, handle, 64), Answer::Accepted);
+        assert_eq!(arrive(&mut core, id, u64::from(handle), 64), Answer::Accepted);
     }
     let left = 1024 - 2 * (packets - 1);
     assert_eq!((waiting(&core, id as usize), level(&core, id as usize)), (packets, left));
@@ -803,7 +803,7 @@ pub fn core_of(clients: &[(u32, u32, u32, u32)]) -> Core {
 /// So many packets of one client, each accepted.
 fn arrive_times(core: &mut Core, id: u32, times: u32) {
     for handle in 0..times {
-        assert_eq!(arrive(core, id, handle, 64), Answer::Accepted);
+        assert_eq!(arrive(core, id, u64::from(handle), 64), Answer::Accepted);
     }
 }
 
@@ -1268,15 +1268,21 @@ fn maker_opens() {
     }
 }
 
-/// "load: id, c mod 130 dummies"; "arrive: id, a packet with handle d and length 63 + c mod 1457".
+/// "load: id, c mod 130 dummies"; "arrive: id, a packet with handle c · 4294967296 + d and length
+/// 63 + c mod 1457". In the handle c has all its bits.
 #[test]
 fn maker_loads_and_arrivals() {
     for (c, count) in [(0, 0), (129, 129), (130, 0), (4294967295, 125)] {
         assert_eq!(call(Time::Quiet, 1764, 15, c, 9), Call::Load { id: 7, count });
     }
-    for (c, length) in [(0, 63), (1, 64), (1456, 1519), (1457, 63), (4294967295, 903)] {
-        let wanted = Call::Arrive { id: 7, handle: 4294967295, length };
-        assert_eq!(call(Time::Busy, 1765, 15, c, 4294967295), wanted);
+    for (c, d, handle, length) in
+        [(0, 0, 0, 63), (0, 4294967295, 4294967295, 63), (1, 0, 4294967296, 64),
+         (1, 9, 4294967305, 64), (1456, 1, 6253472382977, 1519), (1457, 1, 6257767350273, 63),
+         (4294967295, 0, 18446744069414584320, 903),
+         (4294967295, 4294967295, 18446744073709551615, 903)] {
+        let wanted = Call::Arrive { id: 7, handle, length };
+        assert_eq!(call(Time::Busy, 1765, 15, c, d), wanted);
+        assert_eq!(arrival(7, c, d), wanted); // so it is made for client 9 of `greedy` too
     }
 }
 

@@ -113,7 +113,7 @@ impl Watch {
     }
 
     /// An arrival: the answer, and what it does. A packet that is refused changes nothing.
-    fn arrived(&mut self, id: u32, handle: u32, length: u32, answer: &Answer) {
+    fn arrived(&mut self, id: u32, handle: u64, length: u32, answer: &Answer) {
         let Some(Some(seen)) = self.seen.get_mut(id as usize) else {
             assert!(matches!(answer, Answer::Refused(4 | 5 | 19)));
             return;
@@ -207,9 +207,11 @@ impl Watch {
         self.perform(&Call::Tick)
     }
 
-    /// A packet of some length, so that it can be told from others by both its numbers.
-    fn arrive(&mut self, id: u32, handle: u32) -> Answer {
-        self.perform(&Call::Arrive { id, handle, length: 64 + (7 * handle + id) % 1455 })
+    /// A packet of some length, so that it can be told from others by both its numbers; and by
+    /// either half of its handle (S-6), which is the number given.
+    fn arrive(&mut self, id: u32, number: u32) -> Answer {
+        let handle = u64::from(number) * 4294967297;
+        self.perform(&Call::Arrive { id, handle, length: 64 + (7 * number + id) % 1455 })
     }
 
     /// Packets of a client until one is refused; with what.

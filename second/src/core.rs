@@ -1,6 +1,6 @@
 //! The slot core of paper 01: clients, queues, pools, buckets and the seven calls, with the draw
-//! of paper 02, S-1, the buckets of S-4, which begin empty, and the places of S-9. Sentences quoted
-//! without a paper's number are paper 01's.
+//! of paper 02, S-1, the buckets of S-4, which begin empty, the handles of S-6 and the places of
+//! S-9. Sentences quoted without a paper's number are paper 01's.
 //! Checking and doing are kept apart: `refusal` only looks, so "nothing changes".
 
 use std::collections::VecDeque;
@@ -14,7 +14,8 @@ pub const PRIVATE: u32 = 2;
 /// has its own number here, and differs in nothing else.
 pub const PLACES: usize = 128;
 
-/// The seven calls; "calls take unsigned 32-bit numbers". `kind` is the type.
+/// The seven calls; "calls take unsigned 32-bit numbers", but for the handle. Paper 02, S-6:
+/// "Handles go to 18446744073709551615 in calls". `kind` is the type.
 #[derive(Debug, Clone, PartialEq, Eq)]
 pub enum Call {
     Open { threshold: u32, discipline: u32, seed: u32 },
@@ -22,14 +23,14 @@ pub enum Call {
     Change { id: u32, kind: u32, rate: u32, burst: u32 },
     Leave { id: u32 },
     Load { id: u32, count: u32 },
-    Arrive { id: u32, handle: u32, length: u32 },
+    Arrive { id: u32, handle: u64, length: u32 },
     Tick,
 }
 
 /// "A slot's outcome is one of four, and a real one carries its packet".
 #[derive(Debug, Clone, PartialEq, Eq)]
 pub enum Outcome {
-    Real { id: u32, handle: u32, length: u32, padding: u32 },
+    Real { id: u32, handle: u64, length: u32, padding: u32 },
     Dummy { id: u32 },
     Idle { id: u32 },
     Nobody,
@@ -43,11 +44,12 @@ pub enum Answer {
     Slot(Outcome),
 }
 
-/// "A packet is a handle (any 32-bit number) and a length in bytes."
+/// "A packet is a handle (any 32-bit number) and a length in bytes." By paper 02, S-6, it is any
+/// 64-bit number; it goes out as it came in, and nothing else depends on it.
 /// `number` counts accepted packets since opening: a smaller one was "accepted earlier".
 #[derive(Debug, Clone, PartialEq, Eq)]
 pub struct Packet {
-    pub handle: u32,
+    pub handle: u64,
     pub length: u32,
     pub number: u64,
 }
@@ -350,7 +352,7 @@ impl Opened {
 
     /// "Arrive puts one packet last in its client's queue. For an indifferent client it also
     /// takes 1024 from the bucket."
-    fn arrive(&mut self, id: u32, handle: u32, length: u32) {
+    fn arrive(&mut self, id: u32, handle: u64, length: u32) {
         let number = self.accepted;
         self.accepted += 1;
         let client = self.client_mut(id);

@@ -105,9 +105,10 @@ fn threshold_of(b: u32) -> u32 {
     }
 }
 
-/// "arrive: id, a packet with handle d and length 63 + c mod 1457"
+/// "arrive: id, a packet with handle c · 4294967296 + d and length 63 + c mod 1457"
 pub fn arrival(id: u32, c: u32, d: u32) -> Call {
-    Call::Arrive { id, handle: d, length: 63 + c % 1457 }
+    let handle = u64::from(c) * 4294967296 + u64::from(d);
+    Call::Arrive { id, handle, length: 63 + c % 1457 }
 }
 
 /// The table of calls, by k. From 1765 to 15600 it is "in a busy time arrive ...; in a quiet time

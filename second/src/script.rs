@@ -1,6 +1,11 @@
-//! "Script and printout" of paper 01, on raw bytes, and the line of S-14's figure (paper 02).
+//! "Script and printout" of paper 01, on raw bytes, with the handles of S-6 (paper 02), and the
+//! line of S-14's figure.
 
 use crate::core::{Answer, Call, Core, Outcome, INDIFFERENT, PRIVATE};
+
+/// Paper 02, S-6: "Handles go to 18446744073709551615". "an older core meeting a longer handle
+/// refuses it with 17 in a script": it has its own limit here, and differs in nothing else.
+pub const LARGEST_HANDLE: u64 = 18446744073709551615;
 
 /// One line read: a form, or the number (16 or 17) that the line is answered with.
 #[derive(Debug, Clone, PartialEq, Eq)]
@@ -34,19 +39,15 @@ const SHAPES: [&[u8]; 9] = [
     TICK,
 ];
 
-/// Reads one line, without its line feed. "16 | not a form of the grammar", then
-/// "17 | right shape, but a number above 4294967295".
+/// Reads one line, without its line feed. "16 | not a form of the grammar", then 17, "right shape,
+/// but a number above" its limit.
 pub fn parse(line: &[u8]) -> Line {
     for shape in SHAPES {
-        if let Some(texts) = numbers_in(shape, line) {
-            let mut numbers = Vec::new();
-            for text in texts {
-                match value(text) {
-                    Some(number) => numbers.push(number),
-                    None => return Line::Refused(17),
-                }
-            }
-            return Line::Form(call(shape, &numbers));
+        if let Some(numbers) = numbers_in(shape, line) {
+            return match call(shape, &numbers) {
+                Some(call) => Line::Form(call),
+                None => Line::Refused(17),
+            };
         }
     }
     Line::Refused(16)
@@ -91,32 +92,50 @@ fn number_length(rest: &[u8]) -> Option<usize> {
     Some(length)
 }
 
-/// The value of some digits, or nothing if it is "above 4294967295".
-pub(crate) fn value(digits: &[u8]) -> Option<u32> {
-    let mut sum: u64 = 0;
+/// The value of some digits, or nothing if it is above the limit. This is looked at behind each
+/// digit, so that nothing wraps, however many there are.
+fn value_up_to(limit: u64, digits: &[u8]) -> Option<u64> {
+    let mut sum: u128 = 0;
     for &digit in digits {
-        sum = sum * 10 + u64::from(digit - b'0');
-        if sum > 4294967295 {
+        sum = sum * 10 + u128::from(digit - b'0');
+        if sum > u128::from(limit) {
             return None;
         }
     }
-    Some(sum as u32)
+    Some(sum as u64) // at most the limit
 }
 
-/// The call that a shape with its numbers stands for; "`private R` (burst 0)".
-fn call(shape: &[u8], n: &[u32]) -> Call {
-    match shape {
-        OPEN => Call::Open { threshold: n[0], discipline: n[1], seed: n[2] },
-        JOIN_PRIVATE => Call::Join { id: n[0], kind: PRIVATE, rate: n[1], burst: 0 },
-        JOIN_INDIFFERENT => Call::Join { id: n[0], kind: INDIFFERENT, rate: n[1], burst: n[2] },
-        CHANGE_PRIVATE => Call::Change { id: n[0], kind: PRIVATE, rate: n[1], burst: 0 },
-        CHANGE_INDIFFERENT => Call::Change { id: n[0], kind: INDIFFERENT, rate: n[1], burst: n[2] },
-        LEAVE => Call::Leave { id: n[0] },
-        LOAD => Call::Load { id: n[0], count: n[1] },
-        ARRIVE => Call::Arrive { id: n[0], handle: n[1], length: n[2] },
+/// The value of any number but a handle, or nothing if it is "above 4294967295". Paper 02, S-6:
+/// "Number 17 uses that limit for handles and the former one elsewhere."
+pub(crate) fn value(digits: &[u8]) -> Option<u32> {
+    value_up_to(4294967295, digits).map(|value| value as u32)
+}
+
+/// The value of a handle, or nothing if it is above "that limit".
+fn handle(digits: &[u8]) -> Option<u64> {
+    value_up_to(LARGEST_HANDLE, digits)
+}
+
+/// The call that a shape with its numbers stands for, or nothing if one of them is above its limit;
+/// "`private R` (burst 0)".
+fn call(shape: &[u8], numbers: &[&[u8]]) -> Option<Call> {
+    let n = |place: usize| value(numbers[place]);
+    Some(match shape {
+        OPEN => Call::Open { threshold: n(0)?, discipline: n(1)?, seed: n(2)? },
+        JOIN_PRIVATE => Call::Join { id: n(0)?, kind: PRIVATE, rate: n(1)?, burst: 0 },
+        JOIN_INDIFFERENT => {
+            Call::Join { id: n(0)?, kind: INDIFFERENT, rate: n(1)?, burst: n(2)? }
+        }
+        CHANGE_PRIVATE => Call::Change { id: n(0)?, kind: PRIVATE, rate: n(1)?, burst: 0 },
+        CHANGE_INDIFFERENT => {
+            Call::Change { id: n(0)?, kind: INDIFFERENT, rate: n(1)?, burst: n(2)? }
+        }
+        LEAVE => Call::Leave { id: n(0)? },
+        LOAD => Call::Load { id: n(0)?, count: n(1)? },
+        ARRIVE => Call::Arrive { id: n(0)?, handle: handle(numbers[1])?, length: n(2)? },
         TICK => Call::Tick,
         _ => panic!("not one of the shapes"),
-    }
+    })
 }
 
 /// "Each line prints one line: `(ok)`, `(refused N)`, or for a tick `(slot (..))`, inside it the

@@ -18,13 +18,20 @@ pub fn arguments(program: &str) -> (u32, u64) {
     (seed, blocks)
 }
 
+/// "A handle has 64 bits (paper 02, S-6), so it gives two words": "handle mod 4294967296, handle /
+/// 4294967296".
+fn halves(handle: u64) -> [u32; 2] {
+    [(handle % 4294967296) as u32, (handle / 4294967296) as u32]
+}
+
 /// The words that an answer mixes into the check.
 fn words(answer: &Answer) -> Vec<u32> {
     match *answer {
         Answer::Accepted => vec![1],
         Answer::Refused(number) => vec![2, number],
         Answer::Slot(Outcome::Real { id, handle, length, padding }) => {
-            vec![3, id, handle, length, padding]
+            let [lower, upper] = halves(handle);
+            vec![3, id, lower, upper, length, padding]
         }
         Answer::Slot(Outcome::Dummy { id }) => vec![4, id],
         Answer::Slot(Outcome::Idle { id }) => vec![5, id],

@@ -14,6 +14,7 @@ use tests::scripts;
 struct Tally {
     numbers: [u64; 20],
     outcomes: [u64; 5],
+    long_handles: u64,
     buckets: Buckets,
     lines: u64,
     bytes: u64,
@@ -55,6 +56,9 @@ impl Tally {
             Answer::Accepted => {}
             Answer::Refused(number) => self.numbers[number as usize] += 1,
             Answer::Slot(outcome) => {
+                if let Outcome::Real { handle, .. } = outcome {
+                    self.long_handles += u64::from(handle > 4294967295);
+                }
                 let place = match outcome {
                     Outcome::Real { id, .. } if is_indifferent(core, id) => 0,
                     Outcome::Real { .. } => 1,
@@ -78,7 +82,8 @@ impl Tally {
             println!("{}: {}", OUTCOMES[place], self.outcomes[place]);
             complete &= self.outcomes[place] > 0;
         }
-        self.buckets.print() && complete
+        println!("real, with a handle above 4294967295: {}", self.long_handles);
+        self.buckets.print() && complete && self.long_handles > 0
     }
 }
 
@@ -92,7 +97,7 @@ fn main() {
     let arguments = Arguments::read("compare SLOTS FIRST_SEED COUNT");
     let program = &arguments.program;
     let mut tally =
-        Tally { numbers: [0; 20], outcomes: [0; 5], buckets: Buckets::new(), lines: 0, bytes: 0 };
+        Tally { numbers: [0; 20], outcomes: [0; 5], long_handles: 0, buckets: Buckets::new(), lines: 0, bytes: 0 };
     for seed in arguments.seeds() {
         let text = scripts::script(seed);
         let wanted = expected(second::script::run, &text);

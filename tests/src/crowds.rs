@@ -69,7 +69,7 @@ impl Crowd<'_> {
 
     fn arrives(&mut self, id: u32, count: u32) {
         for _ in 0..count {
-            let (handle, length) = (self.random.word(), self.random.between(64, 1518));
+            let (handle, length) = (self.random.handle(), self.random.between(64, 1518));
             self.call(Call::Arrive { id, handle, length });
         }
     }

@@ -248,11 +248,14 @@ pub fn id_of(outcome: &Outcome) -> Option<u32> {
 pub fn slot(line: &[u8]) -> Option<Outcome> {
     let inside = line.strip_prefix(b"(slot (")?.strip_suffix(b"))\n")?;
     let words: Vec<&str> = std::str::from_utf8(inside).ok()?.split(' ').collect();
-    let numbers: Vec<u32> = words[1..].iter().filter_map(|word| word.parse().ok()).collect();
+    let numbers: Vec<u64> = words[1..].iter().filter_map(|word| word.parse().ok()).collect();
+    let short = |number: u64| u32::try_from(number).ok();
     let outcome = match (words[0], &numbers[..]) {
-        ("real", &[id, handle, length, padding]) => Outcome::Real { id, handle, length, padding },
-        ("dummy", &[id]) => Outcome::Dummy { id },
-        ("idle", &[id]) => Outcome::Idle { id },
+        ("real", &[id, handle, length, padding]) => {
+            Outcome::Real { id: short(id)?, handle, length: short(length)?, padding: short(padding)? }
+        }
+        ("dummy", &[id]) => Outcome::Dummy { id: short(id)? },
+        ("idle", &[id]) => Outcome::Idle { id: short(id)? },
         ("none", &[]) => Outcome::Nobody,
         _ => return None,
     };

@@ -156,16 +156,17 @@ pub fn digit_runs(line: &[u8]) -> Vec<(usize, usize)> {
     runs
 }
 
-/// Numbers round 2^32, and numbers whose low 32 or 64 bits are small, so that a reader that lets
-/// a sum run over takes them for small ones.
+/// Numbers round 2^32 and round 2^64, and numbers whose low 32 or 64 bits are small, so that a
+/// reader that lets a sum run over takes them for small ones.
 pub fn big_number(random: &mut Random) -> String {
     let small = u128::from(random.between(0, 66));
     match random.below(8) {
-        0 | 1 => (4_294_967_290 + u128::from(random.between(0, 12))).to_string(),
+        0 => (4_294_967_290 + u128::from(random.between(0, 12))).to_string(),
+        1 => (18_446_744_073_709_551_610 + u128::from(random.between(0, 12))).to_string(),
         2 => ((u128::from(random.between(1, 9)) << 32) + small).to_string(),
         3 => ((u128::from(random.between(1, 9)) << 64) + small).to_string(),
         4 => ((u128::from(random.next()) << 32) + small).to_string(),
-        5 => format!("4294967295{}", random.below(10)),
+        5 => format!("{}{}", random.pick(&["4294967295", "18446744073709551615"]), random.below(10)),
         6 => format!("1{}", "0".repeat(random.below(40))),
         _ => many_digits(random),
     }

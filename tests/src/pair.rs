@@ -264,7 +264,7 @@ impl Maker {
     }
 
     fn packet(&mut self, id: u32) -> Call {
-        let handle = self.random.word();
+        let handle = self.random.handle();
         let any = self.random.between(64, 1518);
         let length = self.random.pick(&[any, any, any, any, any, any, 63, 64, 1518, 1519]);
         Call::Arrive { id, handle, length }

@@ -32,6 +32,19 @@ impl Random {
         self.next() as u32
     }
 
+    /// A handle: of 64 bits, of 32, with one half 0, or at an end of either width (paper 02, S-6).
+    pub fn handle(&mut self) -> u64 {
+        const ENDS: [u64; 5] = [0, 4294967295, 4294967296, u64::MAX - 1, u64::MAX];
+        let any = self.next();
+        match any % 8 {
+            0..=2 => any,
+            3 | 4 => any >> 32,
+            5 => any >> 32 << 32,
+            6 => any >> 62,
+            _ => ENDS[(any >> 8) as usize % ENDS.len()],
+        }
+    }
+
     pub fn pick<T: Clone>(&mut self, list: &[T]) -> T {
         list[self.below(list.len())].clone()
     }

@@ -192,8 +192,8 @@ impl Writer {
     }
 
     fn packet(&mut self, id: u32) -> Call {
-        let word = self.random.word();
-        let handle = self.random.pick(&[0, 4294967295, word, word, word, word]);
+        let any = self.random.handle();
+        let handle = self.random.pick(&[0, u64::MAX, any, any, any, any]);
         Call::Arrive { id, handle, length: self.edge_length() }
     }
 }
@@ -244,7 +244,7 @@ impl Writer {
 
     fn arrives(&mut self, id: u32, count: u32) {
         for _ in 0..count {
-            let handle = self.random.word();
+            let handle = self.random.handle();
             let length = self.random.between(64, 1518);
             self.call(Call::Arrive { id, handle, length });
         }

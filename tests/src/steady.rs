@@ -302,7 +302,7 @@ impl Maker {
 
     fn packets(&mut self, id: u32, count: u32) {
         for _ in 0..count {
-            let (handle, any) = (self.random.between(0, 999), self.random.between(64, 1518));
+            let (handle, any) = (u64::from(self.random.between(0, 999)), self.random.between(64, 1518));
             let length = self.random.pick(&[64, any, any, any, any, any, any, 1518, 63, 1519]);
             self.call(&Call::Arrive { id, handle, length });
         }

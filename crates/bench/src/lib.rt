@@ -47,6 +47,11 @@ fn code(answer: Answer) -> u64 {
     }
 }
 
+// Three times a number of 64 bits, which may wrap.
+fn thrice(x: u64) -> u64 {
+    std::num::wrapping_add_u64(x, std::num::wrapping_add_u64(x, x))
+}
+
 fn outcome_code(outcome: Outcome) -> u64 {
     match outcome {
         Outcome::Real {
@@ -54,11 +59,11 @@ fn outcome_code(outcome: Outcome) -> u64 {
             packet,
             padding,
         } => {
-            1000
+            let short = 1000
                 + tables::wide(id) * 7
-                + tables::wide(packet.handle) * 3
                 + tables::wide(packet.length) * 5
-                + tables::wide(padding) * 11
+                + tables::wide(padding) * 11;
+            std::num::wrapping_add_u64(short, thrice(packet.handle))
         }
         Outcome::Dummy { id } => 500 + tables::wide(id),
         Outcome::Idle { id } => 600 + tables::wide(id),
@@ -71,9 +76,9 @@ fn join_ids(
     control: Control,
     terms: &mut [u32; TERMS],
     stocks: &mut [u32; STOCKS],
-    handles: &[u32; STORE],
+    handles: &[u64; STORE],
     lengths: &[u32; STORE],
-    links: &[u32; LINKS],
+    links: &[u16; LINKS],
     first: u32,
     end: u32,
     kind: u32,
@@ -110,9 +115,9 @@ fn fill_queue(
     control: Control,
     terms: &mut [u32; TERMS],
     stocks: &mut [u32; STOCKS],
-    handles: &mut [u32; STORE],
+    handles: &mut [u64; STORE],
     lengths: &mut [u32; STORE],
-    links: &mut [u32; LINKS],
+    links: &mut [u16; LINKS],
     id: u32,
     each: u32,
 ) -> Control
@@ -123,7 +128,7 @@ fn fill_queue(
     let mut k: u32 = 0;
     while k < each {
         let packet = Packet {
-            handle: id,
+            handle: id as u64,
             length: 64,
         };
         let r = traffic::arrive(at, terms, stocks, handles, lengths, links, id, packet);
@@ -138,9 +143,9 @@ fn fill_queues(
     control: Control,
     terms: &mut [u32; TERMS],
     stocks: &mut [u32; STOCKS],
-    handles: &mut [u32; STORE],
+    handles: &mut [u64; STORE],
     lengths: &mut [u32; STORE],
-    links: &mut [u32; LINKS],
+    links: &mut [u16; LINKS],
     n: u32,
     each: u32,
 ) -> Control
@@ -179,7 +184,10 @@ fn after(i: usize, n: usize) -> usize
 }
 
 fn packet(handle: u32, length: u32) -> Packet {
-    Packet { handle, length }
+    Packet {
+        handle: handle as u64,
+        length,
+    }
 }
 
 // Four calls that are refused if the first id that nobody has is 64. The compiler does not know that number, nor of any two calls that they
@@ -188,9 +196,9 @@ fn refused_round(
     control: Control,
     terms: &mut [u32; TERMS],
     stocks: &mut [u32; STOCKS],
-    handles: &mut [u32; STORE],
+    handles: &mut [u64; STORE],
     lengths: &mut [u32; STORE],
-    links: &mut [u32; LINKS],
+    links: &mut [u16; LINKS],
     id: u32,
     other: u32,
     beyond: u32,
@@ -262,9 +270,9 @@ fn refused_rounds(
     control: Control,
     terms: &mut [u32; TERMS],
     stocks: &mut [u32; STOCKS],
-    handles: &mut [u32; STORE],
+    handles: &mut [u64; STORE],
     lengths: &mut [u32; STORE],
-    links: &mut [u32; LINKS],
+    links: &mut [u16; LINKS],
     n: u32,
     beyond: u32,
     rounds: u32,
@@ -303,9 +311,9 @@ fn traffic_round(
     control: Control,
     terms: &mut [u32; TERMS],
     stocks: &mut [u32; STOCKS],
-    handles: &mut [u32; STORE],
+    handles: &mut [u64; STORE],
     lengths: &mut [u32; STORE],
-    links: &mut [u32; LINKS],
+    links: &mut [u16; LINKS],
     id: u32,
     k: u32,
     sum: u64,
@@ -315,7 +323,7 @@ fn traffic_round(
         (tables (now (terms .exit)) (now (stocks .exit)) (now (handles .exit)) (now (lengths .exit)) (now (links .exit))) ⌝ }
 {
     let packet = Packet {
-        handle: k,
+        handle: k as u64,
         length: 64 + k % 1024,
     };
     let a = traffic::arrive(control, terms, stocks, handles, lengths, links, id, packet);
@@ -334,9 +342,9 @@ pub fn traffic_rounds(
     control: Control,
     terms: &mut [u32; TERMS],
     stocks: &mut [u32; STOCKS],
-    handles: &mut [u32; STORE],
+    handles: &mut [u64; STORE],
     lengths: &mut [u32; STORE],
-    links: &mut [u32; LINKS],
+    links: &mut [u16; LINKS],
     first: u32,
     n: u32,
     rounds: u32,
@@ -405,9 +413,9 @@ pub fn run_stage(
     control: Control,
     terms: &mut [u32; TERMS],
     stocks: &mut [u32; STOCKS],
-    handles: &mut [u32; STORE],
+    handles: &mut [u64; STORE],
     lengths: &mut [u32; STORE],
-    links: &mut [u32; LINKS],
+    links: &mut [u16; LINKS],
     n: u32,
     s: Stage,
 ) -> Tally
@@ -447,9 +455,9 @@ fn run_stages(
     control: Control,
     terms: &mut [u32; TERMS],
     stocks: &mut [u32; STOCKS],
-    handles: &mut [u32; STORE],
+    handles: &mut [u64; STORE],
     lengths: &mut [u32; STORE],
-    links: &mut [u32; LINKS],
+    links: &mut [u16; LINKS],
     n: u32,
     indifferents: u32,
     each: u32,

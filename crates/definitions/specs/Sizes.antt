@@ -5,9 +5,9 @@ use Prim.Native.Nat.{ℕ}
 unfoldable pub numberLimit : ℕ
 numberLimit = 4294967295
 
--- "a handle (any 32-bit number)"
+-- "Handles go to 18446744073709551615" (paper 02, S-6). The code has it as HANDLE_LIMIT.
 unfoldable pub handleLimit : ℕ
-handleLimit = 4294967295
+handleLimit = 18446744073709551615
 
 -- "Ids run from 0 to 63."
 unfoldable pub ids : ℕ

@@ -4,7 +4,7 @@
 // The largest number of a call, and the largest handle.
 pub const NUMBER_LIMIT: u64 = 4294967295;
 
-pub const HANDLE_LIMIT: u64 = 4294967295;
+pub const HANDLE_LIMIT: u64 = 18446744073709551615;
 
 // How many ids there are, and how many places each has.
 pub const IDS: u32 = 64;
@@ -39,7 +39,7 @@ pub const WEIGHTED_DRAW: u32 = 1;
 
 // A packet: a handle, which the core carries and never reads, and a length in bytes.
 pub struct Packet {
-    pub handle: u32,
+    pub handle: u64,
     pub length: u32,
 }
 

@@ -81,9 +81,9 @@ fn own(plan: Plan) -> Stage
 fn begin(
     terms: &mut [u32; TERMS],
     stocks: &mut [u32; STOCKS],
-    handles: &mut [u32; STORE],
+    handles: &mut [u64; STORE],
     lengths: &mut [u32; STORE],
-    links: &mut [u32; LINKS],
+    links: &mut [u16; LINKS],
 ) -> Control
     ensures { λ r. ⌜ Valid r (tables (now (terms .exit)) (now (stocks .exit)) (now (handles .exit)) (now (lengths .exit)) (now (links .exit))) ⌝ }
 {
@@ -107,9 +107,9 @@ fn leave_ids(
     control: Control,
     terms: &mut [u32; TERMS],
     stocks: &mut [u32; STOCKS],
-    handles: &[u32; STORE],
+    handles: &[u64; STORE],
     lengths: &[u32; STORE],
-    links: &mut [u32; LINKS],
+    links: &mut [u16; LINKS],
     end: u32,
     before: u64,
 ) -> Tally
@@ -135,9 +135,9 @@ fn change_ids(
     control: Control,
     terms: &mut [u32; TERMS],
     stocks: &mut [u32; STOCKS],
-    handles: &[u32; STORE],
+    handles: &[u64; STORE],
     lengths: &[u32; STORE],
-    links: &mut [u32; LINKS],
+    links: &mut [u16; LINKS],
     end: u32,
     plan: Plan,
     before: u64,
@@ -174,9 +174,9 @@ fn empty_ids(
     control: Control,
     terms: &mut [u32; TERMS],
     stocks: &mut [u32; STOCKS],
-    handles: &[u32; STORE],
+    handles: &[u64; STORE],
     lengths: &[u32; STORE],
-    links: &mut [u32; LINKS],
+    links: &mut [u16; LINKS],
     end: u32,
     plan: Plan,
     sum: u64,
@@ -206,9 +206,9 @@ fn empty_rounds(
     control: Control,
     terms: &mut [u32; TERMS],
     stocks: &mut [u32; STOCKS],
-    handles: &[u32; STORE],
+    handles: &[u64; STORE],
     lengths: &[u32; STORE],
-    links: &mut [u32; LINKS],
+    links: &mut [u16; LINKS],
     end: u32,
     plan: Plan,
     rounds: u32,
@@ -246,9 +246,9 @@ fn empty_rounds(
 fn set_up(
     terms: &mut [u32; TERMS],
     stocks: &mut [u32; STOCKS],
-    handles: &mut [u32; STORE],
+    handles: &mut [u64; STORE],
     lengths: &mut [u32; STORE],
-    links: &mut [u32; LINKS],
+    links: &mut [u16; LINKS],
     plan: Plan,
 ) -> Tally
     requires { ⌜ 1 ≤ plan .clients ⌝ }
@@ -275,9 +275,9 @@ fn set_up(
 fn emptying(
     terms: &mut [u32; TERMS],
     stocks: &mut [u32; STOCKS],
-    handles: &mut [u32; STORE],
+    handles: &mut [u64; STORE],
     lengths: &mut [u32; STORE],
-    links: &mut [u32; LINKS],
+    links: &mut [u16; LINKS],
     plan: Plan,
     end: u32,
     rounds: u32,
@@ -345,9 +345,9 @@ fn open_rounds(
     control: Control,
     terms: &mut [u32; TERMS],
     stocks: &mut [u32; STOCKS],
-    handles: &mut [u32; STORE],
+    handles: &mut [u64; STORE],
     lengths: &mut [u32; STORE],
-    links: &mut [u32; LINKS],
+    links: &mut [u16; LINKS],
     rounds: u32,
 ) -> Tally
     requires { ⌜ Valid control (tables (now terms) (now stocks) (now handles) (now lengths) (now links)) ⌝ }
@@ -381,9 +381,9 @@ fn open_rounds(
 fn opens(
     terms: &mut [u32; TERMS],
     stocks: &mut [u32; STOCKS],
-    handles: &mut [u32; STORE],
+    handles: &mut [u64; STORE],
     lengths: &mut [u32; STORE],
-    links: &mut [u32; LINKS],
+    links: &mut [u16; LINKS],
     rounds: u32,
 ) -> u64 {
     let last = Stage {

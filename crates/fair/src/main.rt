@@ -1,5 +1,6 @@
 // Reads a text of demands from standard input and writes the lines of their rates (paper 02, S-8). What is written is decided in
 // `fairsheet`.
+use fairsheet::SHEET_ROOM;
 use libc::STDERR_FILENO;
 use streams::Reading;
 use streams::Writing;
@@ -18,11 +19,11 @@ fn has_none(count: usize) -> bool
     count <= NO_ARGUMENTS
 }
 
-// Writes the printout of a text.
+// Writes the printout of a text, with room for the lines of all rates.
 fn write_printout(text: &[u8]) -> Writing
     ensures { λ r. ⌜ HandedOn r (fairPrintout (now (text .entry))) ⌝ }
 {
-    let mut out = io::buffer();
+    let mut out: [u8; SHEET_ROOM] = [0; SHEET_ROOM];
     let written = fairsheet::print(text, &mut out);
     streams::write_text(&out[..written])
 }

@@ -13,13 +13,13 @@ use Rattle.grammar.specs.FairSheet.{rateLine, rateLines}
 use Rattle.printer.specs.Appended.{Appended}
 use Rattle.printer.specs.Printed.{lineRoom, LineWritten}
 use Rattle.printer.proofs.Appending.{sets-append, appended-length}
-use Rattle.printer.proofs.FilledLength.{filled-length}
+use Rattle.printer.proofs.FilledLength.{ten-digits, filled-length}
 use Rattle.fairsheet.specs.Written.{sheetRoom}
 
 rateLine-length : (id rate : ℕ) → id < 2 ^ 32 → rate < 2 ^ 32 → length (rateLine id rate) ≤ lineRoom
 unfolding rateLine
 rateLine-length id rate small small′ =
-    omega (arith, filled-length (bytes "(rate # #)\n") (id ∷ rate ∷ []) (small, (small′, tt)))
+    omega (arith, filled-length (bytes "(rate # #)\n") (id ∷ rate ∷ []), ten-digits id small, ten-digits rate small′)
 
 rateLines-first : (listed rates : List ℕ) (i : ℕ) → i < length listed → i < length rates
     → rateLines (drop i listed) (drop i rates)

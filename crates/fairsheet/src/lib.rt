@@ -18,7 +18,7 @@ ghost use Rattle.fairsheet.specs.Written.{sheetRoom, SheetWritten};
 // How many demands a list may have, and the room of their lines.
 const ROWS: usize = IDS as usize;
 
-const SHEET_ROOM: usize = ROWS * LINE_ROOM;
+pub const SHEET_ROOM: usize = ROWS * LINE_ROOM;
 
 const FITS: u32 = 0;
 

@@ -12,7 +12,7 @@ use Rattle.definitions.specs.declared.Answer.the-variants.{Refused}
 use Rattle.definitions.specs.State.{unopened}
 use Rattle.definitions.specs.Guarantee.{sure}
 use Rattle.grammar.specs.Bytes.{textLimit}
-use Rattle.grammar.specs.Printout.{printed, printout}
+use Rattle.grammar.specs.Printout.{printed, printout, printoutIn}
 use Rattle.grammar.specs.Forecast.{sureLine, forecast, forecastBehind}
 use Rattle.printer.specs.Printed.{lineRoom, LineWritten}
 use Rattle.printer.proofs.Appending.{appended-front, appended-length}
@@ -43,8 +43,8 @@ line-as {before = before} {at} {after} {end} e w = subst (λ (l : List ℕ). Lin
 -- ---- which line is told
 
 behind-long : (text : List ℕ) (ticks : ℕ) → textLimit < length text → forecastBehind text ticks ≡ printout text
-unfolding forecastBehind printout
-behind-long text ticks over = rw (forecastBehind, printout, lt-ltb textLimit (length text) over)
+unfolding forecastBehind printoutIn
+behind-long text ticks over = rw (forecastBehind, printoutIn, lt-ltb textLimit (length text) over)
 
 behind-read : {text : List ℕ} {c : Control} {t : Tables} → CarriedOut text c t → (ticks : ℕ) → length text ≤ textLimit
     → forecast (coreOf c t) ticks ≡ forecastBehind text ticks

@@ -26,9 +26,9 @@ fn carry_out(
     first: Progress,
     terms: &mut [u32; TERMS],
     stocks: &mut [u32; STOCKS],
-    handles: &mut [u32; STORE],
+    handles: &mut [u64; STORE],
     lengths: &mut [u32; STORE],
-    links: &mut [u32; LINKS],
+    links: &mut [u16; LINKS],
 ) -> Control
     requires { ⌜ Start (now text) (now out) first × (lineRoom ≤ length (now out)) ⌝ }
     ensures { λ r. ⌜ CarriedOut (now (text .entry)) r
@@ -82,9 +82,9 @@ pub fn forecast(
     out: &mut [u8],
     terms: &mut [u32; TERMS],
     stocks: &mut [u32; STOCKS],
-    handles: &mut [u32; STORE],
+    handles: &mut [u64; STORE],
     lengths: &mut [u32; STORE],
-    links: &mut [u32; LINKS],
+    links: &mut [u16; LINKS],
 ) -> usize
     ensures { λ r. ⌜ Told (now (text .entry)) ticks (now (out .entry))
         (tables (now (terms .entry)) (now (stocks .entry)) (now (handles .entry)) (now (lengths .entry)) (now (links .entry)))

@@ -13,19 +13,21 @@ use Rattle.definitions.specs.FairRates.{cutSum, fits, largestUpTo, fairLevel, e
 use Rattle.definitions.specs.FairRates.{entryFits, listedFrom, acceptable}
 use Rattle.grammar.specs.Bytes.{lineFeed, textLimit}
 use Rattle.grammar.specs.Numerals.{isDigit, leading, behind, isNumeral, valueFrom, digits, decimal}
-use Rattle.grammar.specs.Templates.{limits, numbersFit, filled, matched}
-use Rattle.grammar.specs.Grammar.{sized, parsedBy, parsed}
+use Rattle.grammar.specs.Templates.{limitsIn, numbersFit, filled, matched}
+use Rattle.grammar.specs.Grammar.{sizedIn, parsedByIn, parsedIn}
 use Rattle.grammar.proofs.AllForms.{forms}
-use Rattle.grammar.specs.Printout.{printed, answered, printedFrom, coreFrom, printout}
+use Rattle.grammar.specs.Printout.{printed, answered, printedFromIn, coreFromIn, printoutIn}
+use Rattle.grammar.specs.Editions.{longer, longerFrom}
 use Rattle.grammar.specs.Lines.{lines, heldFrom, heard, toldFrom, told}
 use Rattle.grammar.specs.FairSheet.{demandRows, shaped, rowsFit, rateLine, rateLines, ratesPrinted}
 use Rattle.grammar.specs.FairSheet.{sheetFits, sheetPrinted, fairPrintout}
 use Rattle.grammar.specs.Sheet.{noted, notedFrom}
-use Rattle.grammar.specs.Examples.{PaperPrintout, BadPrintout, FairPrintouts, silence, CallAndSilence, tooLong, LimitNeeded}
+use Rattle.grammar.specs.Examples.{PaperPrintout, BadPrintout, HandlePrintouts, NumberPrintout}
+use Rattle.grammar.specs.Examples.{FairPrintouts, silence, CallAndSilence, tooLong, LimitNeeded}
 
 unfoldable pub printing : Type 0
 unfolding everything textLimit numberLimit handleLimit isDigit leading behind isNumeral valueFrom digits decimal filled matched
-    limits numbersFit forms sized parsedBy parsed printed answered printedFrom coreFrom printout
+    limitsIn numbersFit forms sizedIn parsedByIn parsedIn printed answered printedFromIn coreFromIn printoutIn
 printing = Unit {0}
 
 -- and what reads a text beside its printout
@@ -41,6 +43,14 @@ paper-printout = refl
 pub bad-printout : BadPrintout
 unfolding BadPrintout printing
 bad-printout = refl
+
+pub handle-printouts : HandlePrintouts
+unfolding printing longer longerFrom
+handle-printouts = record { newer = refl; older = refl; handlesLonger = refl; shortNotLonger = refl }
+
+pub number-printout : NumberPrintout
+unfolding NumberPrintout printing
+number-printout = refl
 
 -- what reads a text of demands and prints its rates
 unfoldable pub sharing : Type 0
@@ -76,7 +86,7 @@ call-and-silence = record {
 
 -- empty lines tell nothing
 feeds-told : (h : History) (n : ℕ) → toldFrom h (lines (replicate n lineFeed)) ≡ h
-unfolding lines toldFrom heldFrom heard parsed forms parsedBy matched
+unfolding lines toldFrom heldFrom heard parsedIn forms parsedByIn matched
 feeds-told h zero = refl
 feeds-told h (suc n) = feeds-told h n
 
@@ -84,12 +94,12 @@ silence-told : (n : ℕ) → told (lines (silence ++ replicate n lineFeed)) ≡ 
 unfolding comparing
 silence-told n = feeds-told (told (lines silence)) n
 
-longer : (n : ℕ) → n < length (silence ++ replicate n lineFeed)
-longer n = omega (arith, length-replicate n lineFeed)
+over-limit : (n : ℕ) → n < length (silence ++ replicate n lineFeed)
+over-limit n = omega (arith, length-replicate n lineFeed)
 
 pub limit-needed : LimitNeeded
-unfolding printout printed filled decimal digits
+unfolding printoutIn printed filled decimal digits
 limit-needed = record {
   keptAlike = ap (λ (h : History). kept 5 (traceOf scheduler h)) (silence-told textLimit);
-  tooLongPrinted = rw (printout, lt-ltb textLimit (length tooLong) (longer textLimit));
+  tooLongPrinted = rw (printoutIn, lt-ltb textLimit (length tooLong) (over-limit textLimit));
 }

@@ -9,58 +9,62 @@ use borrow.Author.Tests.{ne-eqb}
 use Rattle.definitions.specs.declared.Answer.the-variants.{Refused}
 use Rattle.definitions.specs.State.{Core}
 use Rattle.grammar.specs.Bytes.{lineFeed, Unbroken}
-use Rattle.grammar.specs.Grammar.{parsed}
-use Rattle.grammar.specs.Printout.{printed, answered, printedFrom, coreFrom}
+use Rattle.grammar.specs.Grammar.{parsedIn}
+use Rattle.grammar.specs.Printout.{printed, answered, printedFromIn, coreFromIn}
 
-module _ (core : Core) where
+module _ (handles : ℕ) (core : Core) where
   -- a byte that is no line feed joins the line
-  joins : (line : List ℕ) (b : ℕ) (text : List ℕ) → b ≢ lineFeed
-      → printedFrom core line (b ∷ text) ≡ printedFrom core (line ++ (b ∷ [])) text
-  unfolding printedFrom
-  joins [] b text other = rw (ne-eqb b lineFeed other, printedFrom)
-  joins (x ∷ line) b text other = rw (ne-eqb b lineFeed other, printedFrom)
+  pub joins : (line : List ℕ) (b : ℕ) (text : List ℕ) → b ≢ lineFeed
+      → printedFromIn handles core line (b ∷ text) ≡ printedFromIn handles core (line ++ (b ∷ [])) text
+  unfolding printedFromIn
+  joins [] b text other = rw (ne-eqb b lineFeed other, printedFromIn)
+  joins (x ∷ line) b text other = rw (ne-eqb b lineFeed other, printedFromIn)
 
-  read : (line bs text : List ℕ) → Unbroken bs → printedFrom core line (bs ++ text) ≡ printedFrom core (line ++ bs) text
-  read line [] text whole = ap (λ (l : List ℕ). printedFrom core l text) (sym (append-nil line))
+  read : (line bs text : List ℕ) → Unbroken bs → printedFromIn handles core line (bs ++ text) ≡ printedFromIn handles core (line ++ bs) text
+  read line [] text whole = ap (λ (l : List ℕ). printedFromIn handles core l text) (sym (append-nil line))
   read line (b ∷ bs) text whole =
       joins line b (bs ++ text) (whole .0)
       ∙ read (line ++ (b ∷ [])) bs text (whole .1)
-      ∙ ap (λ (l : List ℕ). printedFrom core l text) (append-assoc line (b ∷ []) bs)
+      ∙ ap (λ (l : List ℕ). printedFromIn handles core l text) (append-assoc line (b ∷ []) bs)
 
-  closes : (line text : List ℕ)
-      → printedFrom core line (lineFeed ∷ text)
-      ≡ printed (answered core (parsed line) .answer) ++ printedFrom (answered core (parsed line) .core) [] text
-  unfolding printedFrom
+  pub closes : (line text : List ℕ)
+      → printedFromIn handles core line (lineFeed ∷ text)
+      ≡ printed (answered core (parsedIn handles line) .answer) ++ printedFromIn handles (answered core (parsedIn handles line) .core) [] text
+  unfolding printedFromIn
   closes [] text = refl
   closes (x ∷ line) text = refl
 
   pub line-closed : (line text : List ℕ)
       → Unbroken line
-      → printedFrom core [] (line ++ lineFeed ∷ text)
-      ≡ printed (answered core (parsed line) .answer) ++ printedFrom (answered core (parsed line) .core) [] text
+      → printedFromIn handles core [] (line ++ lineFeed ∷ text)
+      ≡ printed (answered core (parsedIn handles line) .answer) ++ printedFromIn handles (answered core (parsedIn handles line) .core) [] text
   line-closed line text whole = read [] line (lineFeed ∷ text) whole ∙ closes line text
 
-  pub line-open : (b : ℕ) (bs : List ℕ) → Unbroken (b ∷ bs) → printedFrom core [] (b ∷ bs) ≡ printed (Refused 16)
-  unfolding printedFrom
+  pub line-open : (b : ℕ) (bs : List ℕ) → Unbroken (b ∷ bs) → printedFromIn handles core [] (b ∷ bs) ≡ printed (Refused 16)
+  unfolding printedFromIn
   line-open b bs whole =
-      ap (printedFrom core []) (sym (append-nil (b ∷ bs))) ∙ read [] (b ∷ bs) [] whole
+      ap (printedFromIn handles core []) (sym (append-nil (b ∷ bs))) ∙ read [] (b ∷ bs) [] whole
 
   -- ---- the core behind a text
 
-  core-joins : (line bs text : List ℕ) → Unbroken bs → coreFrom core line (bs ++ text) ≡ coreFrom core (line ++ bs) text
-  unfolding coreFrom
-  core-joins line [] text whole = ap (λ (l : List ℕ). coreFrom core l text) (sym (append-nil line))
+  pub core-joins : (line bs text : List ℕ) → Unbroken bs → coreFromIn handles core line (bs ++ text) ≡ coreFromIn handles core (line ++ bs) text
+  unfolding coreFromIn
+  core-joins line [] text whole = ap (λ (l : List ℕ). coreFromIn handles core l text) (sym (append-nil line))
   core-joins line (b ∷ bs) text whole =
-      rw (ne-eqb b lineFeed (whole .0), coreFrom)
+      rw (ne-eqb b lineFeed (whole .0), coreFromIn)
       (core-joins (line ++ (b ∷ [])) bs text (whole .1)
-      ∙ ap (λ (l : List ℕ). coreFrom core l text) (append-assoc line (b ∷ []) bs))
+      ∙ ap (λ (l : List ℕ). coreFromIn handles core l text) (append-assoc line (b ∷ []) bs))
+
+  pub core-closes : (line text : List ℕ)
+      → coreFromIn handles core line (lineFeed ∷ text) ≡ coreFromIn handles (answered core (parsedIn handles line) .core) [] text
+  unfolding coreFromIn
+  core-closes line text = refl
 
   pub core-closed : (line text : List ℕ)
       → Unbroken line
-      → coreFrom core [] (line ++ lineFeed ∷ text) ≡ coreFrom (answered core (parsed line) .core) [] text
-  unfolding coreFrom
-  core-closed line text whole = core-joins [] line (lineFeed ∷ text) whole
+      → coreFromIn handles core [] (line ++ lineFeed ∷ text) ≡ coreFromIn handles (answered core (parsedIn handles line) .core) [] text
+  core-closed line text whole = core-joins [] line (lineFeed ∷ text) whole ∙ core-closes line text
 
-  pub core-open : (bs : List ℕ) → Unbroken bs → coreFrom core [] bs ≡ core
-  unfolding coreFrom
-  core-open bs whole = ap (coreFrom core []) (sym (append-nil bs)) ∙ core-joins [] bs [] whole
+  pub core-open : (bs : List ℕ) → Unbroken bs → coreFromIn handles core [] bs ≡ core
+  unfolding coreFromIn
+  core-open bs whole = ap (coreFromIn handles core []) (sym (append-nil bs)) ∙ core-joins [] bs [] whole

@@ -21,7 +21,7 @@ use Rattle.grammar.specs.declared.Line.the-variants.{Form, Refused as Un
 use Rattle.grammar.specs.Bytes.{lineFeed, Unbroken, textLimit}
 use Rattle.grammar.specs.Grammar.{parsed}
 use Rattle.grammar.specs.Calls.{eventOf}
-use Rattle.grammar.specs.Printout.{printed, answered, printedFrom, printout}
+use Rattle.grammar.specs.Printout.{printed, answered, printedFrom, printedFromIn, printout, printoutIn}
 use Rattle.grammar.specs.Lines.{lines, held, heard, toldFrom, told, printedLine, printedLines, LinesPrinted}
 use Rattle.grammar.specs.Sheet.{Sheet, sheet, noted, notedFrom, printedOf, SameLines, PrintsSame, SamenessOnPaper}
 use Rattle.grammar.proofs.LineSplits.{OneLine, closed-line, open-line, held-closed, held-open, printed-line}
@@ -68,7 +68,7 @@ open-printed h b line whole =
 -- what is left of a text, with the bytes of the line so far
 sheet-printed : (h : History) (line text : List ℕ) → Unbroken line
     → printedFrom (after scheduler h) line text ≡ flatten (printedLines h (lines (line ++ text)))
-unfolding printedFrom
+unfolding printedFromIn
 sheet-printed h [] [] whole = unfold flatten printedLines lines in refl
 sheet-printed h (b ∷ line) [] whole =
     sym (ap (λ (t : List ℕ). flatten (printedLines h (lines t))) (append-nil (b ∷ line)) ∙ open-printed h b line whole)
@@ -112,9 +112,9 @@ lines-again h (l ∷ ls) =
     ∙ ap (λ (rest : List (List ℕ)). printedLine h (held l) ∷ rest) (lines-again (heard h (held l)) ls)
 
 pub lines-printed : LinesPrinted
-unfolding LinesPrinted after printout
+unfolding LinesPrinted after printoutIn
 lines-printed text short =
-    ap lines (rw (printout, le-ltb textLimit (length text) short) (sheet-printed start [] text tt))
+    ap lines (rw (printoutIn, le-ltb textLimit (length text) short) (sheet-printed start [] text tt))
     ∙ lines-again start (lines text)
 
 -- ---- what is noted of a sheet is a log, from the first to the last

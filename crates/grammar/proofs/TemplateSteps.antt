@@ -1,4 +1,4 @@
--- One step of a template against a line, for each way that it can go: a fixed byte goes by the line's first byte, and a gap by
+-- What a byte of a template adds to its limits. One step of a template against a line, for each way that it can go: a fixed byte goes by the line's first byte, and a gap by
 -- the digits at the front, wherever they end. What `matched` says at each outcome of its tests.
 use Prim.Native.Nat.{ℕ}
 use mathlib.Core.Path.{_≡_, refl, sym}
@@ -7,7 +7,16 @@ use mathlib.Core.List.{List, [], _∷_}
 use mathlib.Core.Option.{none}
 use lib.Dec.{eqb}
 use Rattle.grammar.specs.Numerals.{leading, behind, isNumeral, valueFrom}
-use Rattle.grammar.specs.Templates.{isGap, withNumber, matched}
+use Rattle.grammar.specs.Templates.{isGap, limitIn, limitsIn, withNumber, matched}
+
+pub limits-gap : (handles b : ℕ) (bs : List ℕ) → isGap b ≡ true
+    → limitsIn handles (b ∷ bs) ≡ limitIn handles b ∷ limitsIn handles bs
+unfolding limitsIn
+limits-gap handles b bs g = rw (limitsIn, g)
+
+pub limits-byte : (handles b : ℕ) (bs : List ℕ) → isGap b ≡ false → limitsIn handles (b ∷ bs) ≡ limitsIn handles bs
+unfolding limitsIn
+limits-byte handles b bs g = rw (limitsIn, g)
 
 matched-step : (b : ℕ) (bs : List ℕ) (x : ℕ) (xs : List ℕ)
     → matched (b ∷ bs) (x ∷ xs)

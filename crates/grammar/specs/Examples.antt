@@ -1,14 +1,16 @@
 -- Examples beside the claims: the printout that paper 01 prints ("Script and printout") as S-4 of paper 02 amends it, one of bad
--- lines, texts of demands (paper 02, S-8), and two texts of which demand 3 on paper speaks, with what it compares there and what
--- it does not.
+-- lines, handles and other numbers at their limits (S-6), texts of demands (S-8), and two texts of which demand 3 on paper
+-- speaks, with what it compares there and what it does not.
 use Prim.Native.Nat.{ℕ}
 use mathlib.Core.Path.{_≡_}
-use mathlib.Core.Bool.{_&&_}
+use mathlib.Core.Bool.{true, false, _&&_}
 use mathlib.Core.List.{List, [], _∷_, _++_}
 use lib.ListN.{replicate}
+use Rattle.definitions.specs.Sizes.{numberLimit}
 use Rattle.definitions.specs.Sameness.{indifferentAt, names, departure}
 use Rattle.grammar.specs.Bytes.{bytes, lineFeed, textLimit}
-use Rattle.grammar.specs.Printout.{printout}
+use Rattle.grammar.specs.Printout.{printoutIn, printout}
+use Rattle.grammar.specs.Editions.{longerFrom}
 use Rattle.grammar.specs.Lines.{lines}
 use Rattle.grammar.specs.FairSheet.{fairPrintout}
 use Rattle.grammar.specs.Sheet.{sheet, keptOf, printedOf}
@@ -25,6 +27,43 @@ BadPrintout =
     printout
     (bytes "\n(tick )\n(tick)\n(open 01 0 1)\n(open 4294967296 0 1)\n(open 1024 0 0)\n(leave 4294967295)\n(open 99999999999999999999 0 01)\n(minute 3)\n(tick)")
     ≡ bytes "(refused 16)\n(refused 16)\n(refused 19)\n(refused 16)\n(refused 17)\n(refused 3)\n(refused 19)\n(refused 16)\n(refused 16)\n(refused 16)\n"
+
+-- handles at both sides of the limit of 32 bits and of that of 64 (paper 02, S-6), and one that is 5 beyond the latter
+abbrev pub handlesText : List ℕ
+handlesText =
+    bytes "(open 1024 0 1)\n(join 2 (private 300))\n(arrive 2 (packet 4294967295 64))\n(arrive 2 (packet 4294967296 64))\n"
+    ++ bytes "(arrive 2 (packet 18446744073709551615 1518))\n(arrive 2 (packet 18446744073709551616 64))\n"
+    ++ bytes "(arrive 2 (packet 18446744073709551621 64))\n(tick)\n(tick)\n(tick)\n(tick)\n"
+
+-- the same without a longer handle than the older edition takes
+abbrev pub shortText : List ℕ
+shortText = bytes "(open 1024 0 1)\n(join 2 (private 300))\n(arrive 2 (packet 4294967295 64))\n(tick)\n"
+
+-- The two editions that S-6 speaks of: handles went up to what every number of a call still goes up to.
+pub record HandlePrintouts : Type 0 where
+  pub newer : printout handlesText
+      ≡ bytes "(ok)\n(ok)\n(ok)\n(ok)\n(ok)\n(refused 17)\n(refused 17)\n(slot (real 2 4294967295 64 1454))\n"
+      ++ bytes "(slot (real 2 4294967296 64 1454))\n(slot (real 2 18446744073709551615 1518 0))\n(slot (idle 2))\n"
+  pub older : printoutIn numberLimit handlesText
+      ≡ bytes "(ok)\n(ok)\n(ok)\n(refused 17)\n(refused 17)\n(refused 17)\n(refused 17)\n(slot (real 2 4294967295 64 1454))\n"
+      ++ bytes "(slot (idle 2))\n(slot (idle 2))\n(slot (idle 2))\n"
+  pub handlesLonger : longerFrom numberLimit [] handlesText ≡ true
+  pub shortNotLonger : longerFrom numberLimit [] shortText ≡ false
+
+-- any other number at both sides of 32 bits, numbers of more digits than 64 bits have, and shape before size
+unfoldable pub NumberPrintout : Type 0
+NumberPrintout =
+    printout
+    (bytes "(open 4294967295 4294967295 4294967295)\n(open 4294967296 0 1)\n(open 1024 4294967296 1)\n(open 1024 0 4294967296)\n"
+    ++ bytes "(open 1024 0 4294967295)\n(join 4294967296 (private 1))\n(join 4294967295 (private 1))\n(join 2 (private 4294967296))\n"
+    ++ bytes "(join 2 (indifferent 1 4294967296))\n(change 2 (private 18446744073709551616))\n(leave 4294967296)\n(load 2 4294967296)\n"
+    ++ bytes "(load 4294967301 1)\n(arrive 4294967296 (packet 1 64))\n(arrive 2 (packet 1 4294967296))\n(arrive 2 (packet 1 4294967295))\n"
+    ++ bytes "(arrive 2 (packet 18446744073709551615 18446744073709551615))\n(arrive 2 (packet 99999999999999999999 64))\n"
+    ++ bytes "(arrive 2 (packet 340282366920938463463374607431768211461 64))\n(arrive 2 (packet 18446744073709551616 064))\n"
+    ++ bytes "(arrive 2 (packet 018446744073709551615 64))\n(arrive 2 (packet 18446744073709551616 64)\n")
+    ≡ bytes "(refused 1)\n(refused 17)\n(refused 17)\n(refused 17)\n(ok)\n(refused 17)\n(refused 4)\n(refused 17)\n"
+    ++ bytes "(refused 17)\n(refused 17)\n(refused 17)\n(refused 17)\n(refused 17)\n(refused 17)\n(refused 17)\n(refused 5)\n"
+    ++ bytes "(refused 17)\n(refused 17)\n(refused 17)\n(refused 16)\n(refused 16)\n(refused 16)\n"
 
 -- texts of demands: their rates, no demands, and each number, shape before size and size before 22
 pub record FairPrintouts : Type 0 where

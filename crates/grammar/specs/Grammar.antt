@@ -8,11 +8,11 @@ use mathlib.Core.Option.{Option, none, some}
 use lib.ListN.{getD}
 use Rattle.grammar.specs.declared.Call.{Call}
 use Rattle.grammar.specs.declared.Call.the-variants.{Open, Join, Change, Leave, Load, Arrive, Tick}
-use Rattle.definitions.specs.Sizes.{indifferentKind, privateKind}
+use Rattle.definitions.specs.Sizes.{handleLimit, indifferentKind, privateKind}
 use Rattle.grammar.specs.declared.Line.{Line}
 use Rattle.grammar.specs.declared.Line.the-variants.{Form, Refused}
 use Rattle.grammar.specs.Bytes.{bytes}
-use Rattle.grammar.specs.Templates.{limits, numbersFit, matched}
+use Rattle.grammar.specs.Templates.{limitsIn, numbersFit, matched}
 
 -- a form of the grammar: how it is written, and the call that its numbers make
 pub record Rule : Type 0 where
@@ -53,8 +53,12 @@ leaveForms = rule "(leave #)" (λ n. Leave (nth n 0)) ∷ []
 unfoldable pub loadForms : List Rule
 loadForms = rule "(load # #)" (λ n. Load (nth n 0) (nth n 1)) ∷ []
 
+-- the one form with a handle, its second number
+abbrev pub arrival : Rule
+arrival = rule "(arrive # (packet @ #))" (λ n. Arrive (nth n 0) (record { handle = nth n 1; length = nth n 2 }))
+
 unfoldable pub arriveForms : List Rule
-arriveForms = rule "(arrive # (packet @ #))" (λ n. Arrive (nth n 0) (record { handle = nth n 1; length = nth n 2 })) ∷ []
+arriveForms = arrival ∷ []
 
 unfoldable pub tickForms : List Rule
 tickForms = rule "(tick)" (λ n. Tick) ∷ []
@@ -62,18 +66,34 @@ tickForms = rule "(tick)" (λ n. Tick) ∷ []
 unfoldable pub rules : List Rule
 rules = openForms ++ joinForms ++ changeForms ++ leaveForms ++ loadForms ++ arriveForms ++ tickForms
 
--- "right shape, but a number above 4294967295"
-unfoldable pub sized : Rule → List ℕ → Line
-sized r numbers = cond (numbersFit (limits (r .template)) numbers) (Form (r .call numbers)) (Refused 17)
+-- the edition whose handles go up to a limit
+module _ (handles : ℕ) where
+  -- "right shape, but a number above 4294967295"; "Number 17 uses that limit for handles and the former one elsewhere" (paper 02,
+  -- S-6)
+  unfoldable pub sizedIn : Rule → List ℕ → Line
+  sizedIn r numbers = cond (numbersFit (limitsIn handles (r .template)) numbers) (Form (r .call numbers)) (Refused 17)
 
--- shape is judged before size: the first rule that fits decides, and "not a form of the grammar" is 16
+  -- shape is judged before size: the first rule that fits decides, and "not a form of the grammar" is 16
+  abbrev pub orElseIn : Rule → Option (List ℕ) → Line → Line
+  orElseIn r none line = line
+  orElseIn r (some numbers) line = sizedIn r numbers
+
+  unfoldable pub parsedByIn : List Rule → List ℕ → Line
+  parsedByIn [] line = Refused 16
+  parsedByIn (r ∷ rs) line = orElseIn r (matched (r .template) line) (parsedByIn rs line)
+
+  unfoldable pub parsedIn : List ℕ → Line
+  parsedIn line = parsedByIn rules line
+
+-- the present edition
+abbrev pub sized : Rule → List ℕ → Line
+sized r numbers = sizedIn handleLimit r numbers
+
 abbrev pub orElse : Rule → Option (List ℕ) → Line → Line
-orElse r none line = line
-orElse r (some numbers) line = sized r numbers
+orElse r found line = orElseIn handleLimit r found line
 
-unfoldable pub parsedBy : List Rule → List ℕ → Line
-parsedBy [] line = Refused 16
-parsedBy (r ∷ rs) line = orElse r (matched (r .template) line) (parsedBy rs line)
+abbrev pub parsedBy : List Rule → List ℕ → Line
+parsedBy rs line = parsedByIn handleLimit rs line
 
-unfoldable pub parsed : List ℕ → Line
-parsed line = parsedBy rules line
+abbrev pub parsed : List ℕ → Line
+parsed line = parsedIn handleLimit line

@@ -1,7 +1,7 @@
 -- "One blank between parts, none elsewhere" (paper 01, "Script and printout").
 -- Templates: a text with gaps for numbers. One template says how a form is written and how it is read.
 use Prim.Native.Nat.{ℕ}
-use mathlib.Core.Bool.{Bool, true, false, cond, _&&_}
+use mathlib.Core.Bool.{Bool, true, false, cond, _&&_, _||_}
 use mathlib.Core.List.{List, [], _∷_, _++_}
 use mathlib.Core.Option.{Option, none, some}
 use lib.Dec.{eqb, leb}
@@ -9,32 +9,22 @@ use lib.ListN.{length}
 use Rattle.definitions.specs.Sizes.{numberLimit, handleLimit}
 use Rattle.grammar.specs.Numerals.{leading, behind, isNumeral, valueFrom, decimal}
 
--- The gaps, each with the largest number that may stand there: the byte # for a number of a call, @ for a handle. Any other byte
--- is fixed.
-abbrev pub gapLimit : ℕ → Option ℕ
-gapLimit byte =
-    cond (eqb byte 35) (some numberLimit)
-    (cond (eqb byte 64) (some handleLimit)
-    none)
-
-abbrev pub isSome : Option ℕ → Bool
-isSome none = false
-isSome (some n) = true
-
-abbrev pub orZero : Option ℕ → ℕ
-orZero none = 0
-orZero (some n) = n
-
+-- The gaps: the byte # for a number of a call, @ for a handle. Any other byte is fixed.
 abbrev pub isGap : ℕ → Bool
-isGap byte = isSome (gapLimit byte)
+isGap byte = eqb byte 35 || eqb byte 64
 
-abbrev pub limitOf : ℕ → ℕ
-limitOf byte = orZero (gapLimit byte)
+-- The largest number that may stand in a gap. A handle has a limit of its own, in which editions differ (specs/Editions).
+abbrev pub limitIn : ℕ → ℕ → ℕ
+limitIn handles byte = cond (eqb byte 35) numberLimit (cond (eqb byte 64) handles 0)
 
 -- the limits of a template's gaps, one after the other
-unfoldable pub limits : List ℕ → List ℕ
-limits [] = []
-limits (b ∷ bs) = cond (isGap b) (limitOf b ∷ limits bs) (limits bs)
+unfoldable pub limitsIn : ℕ → List ℕ → List ℕ
+limitsIn handles [] = []
+limitsIn handles (b ∷ bs) =
+    elim (isGap b) [ true ↦ limitIn handles b ∷ limitsIn handles bs | false ↦ limitsIn handles bs ]
+
+abbrev pub limits : List ℕ → List ℕ
+limits template = limitsIn handleLimit template
 
 -- how many numbers a template takes
 abbrev pub gaps : List ℕ → ℕ

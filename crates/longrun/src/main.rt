@@ -27,9 +27,9 @@ fn blocks(
     count: u32,
     terms: &mut [u32; TERMS],
     stocks: &mut [u32; STOCKS],
-    handles: &mut [u32; STORE],
+    handles: &mut [u64; STORE],
     lengths: &mut [u32; STORE],
-    links: &mut [u32; LINKS],
+    links: &mut [u16; LINKS],
 ) {
     let mut at = runs::begin(seed);
     let mut done: u32 = 0;
@@ -46,9 +46,9 @@ fn blocks(
 fn run(seed: u32, count: u32) {
     let mut terms: [u32; TERMS] = [0; TERMS];
     let mut stocks: [u32; STOCKS] = [0; STOCKS];
-    let mut handles: [u32; STORE] = [0; STORE];
+    let mut handles: [u64; STORE] = [0; STORE];
     let mut lengths: [u32; STORE] = [0; STORE];
-    let mut links: [u32; LINKS] = [0; LINKS];
+    let mut links: [u16; LINKS] = [0; LINKS];
     blocks(
         seed,
         count,

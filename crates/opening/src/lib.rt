@@ -75,9 +75,9 @@ pub fn open(
     control: Control,
     terms: &mut [u32; TERMS],
     stocks: &mut [u32; STOCKS],
-    handles: &mut [u32; STORE],
+    handles: &mut [u64; STORE],
     lengths: &mut [u32; STORE],
-    links: &mut [u32; LINKS],
+    links: &mut [u16; LINKS],
     threshold: u32,
     discipline: u32,
     seed: u32,
@@ -95,6 +95,6 @@ pub fn open(
     *stocks = [0; STOCKS];
     *handles = [0; STORE];
     *lengths = [0; STORE];
-    *links = [END; LINKS];
+    *links = [END as u16; LINKS];
     tables::accepted(control_of(true, threshold, discipline, seed))
 }

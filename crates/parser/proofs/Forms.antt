@@ -12,8 +12,8 @@ use lib.ListN.{length, take, drop}
 use lib.Seq.{getD-take}
 use Rattle.definitions.proofs.Laws.Tests.{and-both}
 use Rattle.grammar.specs.declared.Line.the-variants.{Form, Refused}
-use Rattle.grammar.specs.Templates.{isGap, limits, gaps, numbersFit, matched}
-use Rattle.grammar.specs.Grammar.{Rule, nth, sized, orElse, parsedBy}
+use Rattle.grammar.specs.Templates.{isGap, limits, limitsIn, gaps, numbersFit, matched}
+use Rattle.grammar.specs.Grammar.{Rule, nth, sizedIn, orElse, parsedBy, parsedByIn}
 use Rattle.parser.specs.Numbers.{byteOf}
 use Rattle.parser.specs.Readings.{verdict, Reads}
 use Rattle.parser.proofs.TemplateWalk.{second-misfits}
@@ -50,12 +50,12 @@ module _ {template line : List ℕ} {refused : ℕ} {numbers : List ℕ} (read :
 module _ (r : Rule) (rs : List Rule) (line : List ℕ) {refused : ℕ} {numbers : List ℕ}
     (read : Reads (r .template) line refused numbers) where
   pub rule-fits : refused ≡ 0 → parsedBy (r ∷ rs) line ≡ Form (r .call (take (gaps (r .template)) numbers))
-  unfolding parsedBy sized
+  unfolding parsedByIn sizedIn
   rule-fits e = rw (read .places e, read-fits read e)
 
   -- a form that is refused has a number that is too large, or leaves the line to those behind it
   rule-refused : (refused ≡ 0 → ⊥) → parsedBy (r ∷ rs) line ≡ cond (eqb refused 17) (Refused 17) (parsedBy rs line)
-  unfolding parsedBy sized
+  unfolding parsedByIn sizedIn
   rule-refused ne = rw (read .answer) (go (matched (r .template) line) (read .answer))
     where
       go : (found : Option (List ℕ)) → refused ≡ verdict (r .template) found
@@ -77,7 +77,7 @@ module _ (r : Rule) (rs : List Rule) (line : List ℕ) {refused : ℕ} {numbers 
 -- a line that can have one form only
 pub only-refused : (r : Rule) (line : List ℕ) {refused : ℕ} {numbers : List ℕ} → Reads (r .template) line refused numbers
     → (refused ≡ 0 → ⊥) → parsedBy (r ∷ []) line ≡ Refused refused
-unfolding parsedBy sized
+unfolding parsedByIn sizedIn
 only-refused r line {refused} read ne = go (matched (r .template) line) (read .answer)
   where
     go : (found : Option (List ℕ)) → refused ≡ verdict (r .template) found → orElse r found (Refused 16) ≡ Refused refused
@@ -90,24 +90,24 @@ only-refused r line {refused} read ne = go (matched (r .template) line) (read .a
 
 -- where no form is left, the line is none
 pub no-rule : (line : List ℕ) → parsedBy [] line ≡ Refused 16
-unfolding parsedBy
+unfolding parsedByIn
 no-rule line = refl
 
 -- a form that does not fit leaves the line to those behind it, and one without numbers has none that is too large
 pub rule-missed : (r : Rule) (rs : List Rule) (line : List ℕ) → matched (r .template) line ≡ none
     → parsedBy (r ∷ rs) line ≡ parsedBy rs line
-unfolding parsedBy
+unfolding parsedByIn
 rule-missed r rs line e = rw e
 
 pub rule-bare : (r : Rule) (rs : List Rule) (line : List ℕ) → matched (r .template) line ≡ some [] → limits (r .template) ≡ []
     → parsedBy (r ∷ rs) line ≡ Form (r .call [])
-unfolding parsedBy sized numbersFit
+unfolding parsedByIn sizedIn numbersFit
 rule-bare r rs line e bare = rw (e, bare)
 
 -- what stands behind the forms that are tried does not matter where it gives 16
 pub behind-none : (rs after : List Rule) (line : List ℕ) → parsedBy after line ≡ Refused 16
     → parsedBy (rs ++ after) line ≡ parsedBy rs line
-unfolding parsedBy
+unfolding parsedByIn
 behind-none [] after line e = e
 behind-none (r ∷ rs) after line e = ap (orElse r (matched (r .template) line)) (behind-none rs after line e)
 
@@ -137,7 +137,7 @@ module _ (line : List ℕ) {letter : ℕ} (second : letter ≡ byteOf (drop 1 li
 
   -- only these have to be tried
   pub only-like : (rs : List Rule) → parsedBy rs line ≡ parsedBy (like letter rs) line
-  unfolding parsedBy like
+  unfolding parsedByIn like
   only-like [] = refl
   only-like (r ∷ rs) = go (unlike letter (r .template)) refl (only-like rs)
     where

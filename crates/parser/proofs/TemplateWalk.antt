@@ -13,8 +13,9 @@ use lib.Dec.{leb, ltb, eqb}
 use lib.ListN.{length, take, drop, getD, set, length-set, drop-of-length-le}
 use lib.Seq.{drop-nil, drop-cons, drop-drop, take-suc-set}
 use Rattle.grammar.specs.Numerals.{leading, behind, valueFrom}
-use Rattle.grammar.specs.Templates.{isGap, limits, gaps, numbersFit, withNumber, matched}
-use Rattle.grammar.proofs.TemplateSteps.{gap-fits, gap-misfits, byte-fits, byte-misfits}
+use Rattle.definitions.specs.Sizes.{handleLimit}
+use Rattle.grammar.specs.Templates.{isGap, limits, limitsIn, gaps, numbersFit, withNumber, matched}
+use Rattle.grammar.proofs.TemplateSteps.{limits-gap, limits-byte, gap-fits, gap-misfits, byte-fits, byte-misfits}
 use Rattle.parser.specs.declared.Gap.{Gap}
 use Rattle.parser.specs.declared.Numeral.{Numeral}
 use Rattle.parser.specs.Numbers.{byteOf, Spells}
@@ -125,8 +126,10 @@ module _ {line : List ℕ} {from : ℕ} {template : List ℕ} {large : Bool} {nu
     is-gap = sym (ap (λ (g : Gap). g .is) (t .told)) ∙ taken
 
     next-limit : limits (drop i template) ≡ mark .limit ∷ limits (drop (i + 1) template)
-    unfolding limits
-    next-limit = rw (next-byte, is-gap, ap (λ (g : Gap). g .limit) (t .told))
+    next-limit =
+        ap limits next-byte
+        ∙ limits-gap handleLimit byte (drop (i + 1) template) is-gap
+        ∙ ap (λ (g : Gap). g .limit ∷ limits (drop (i + 1) template)) (sym (t .told))
 
     -- a gap has its place among the numbers
     pub walked-place : count < numbersRoom
@@ -172,9 +175,8 @@ module _ {line : List ℕ} {from : ℕ} {template : List ℕ} {large : Bool} {nu
     fixed = sym (ap (λ (g : Gap). g .is) (t .told)) ∙ left
 
     pub walked-byte : read ≡ byte → Walked line from template large numbers count (at + 1) (i + 1)
-    unfolding limits
     walked-byte e =
-        let same : limits (drop i template) ≡ limits (drop (i + 1) template) = rw (next-byte, fixed) in
+        let same = ap limits next-byte ∙ limits-byte handleLimit byte (drop (i + 1) template) fixed in
         let fits = first-fits byte (drop (i + 1) template) fixed (drop at line) (t .small) (sym r ∙ e) in
         record {
           within = omega (arith, t .more);
@@ -208,7 +210,7 @@ module _ {line : List ℕ} {from : ℕ} {template : List ℕ} {large : Bool} {nu
         record { answer = sym (w .answer ∙ rw (ended, e)); places = λ z. absurd (omega arith); sized = w .room .sized }
 
     pub walked-all : large ≡ false → Reads template (drop from line) 0 numbers
-    unfolding before limits numbersFit
+    unfolding before limitsIn numbersFit
     walked-all e =
         let none-left : limits (drop i template) ≡ [] = rw (drop-of-length-le template h) in
         let all : count ≡ gaps template = omega (arith, w .counted, ap length none-left) in

@@ -14,9 +14,10 @@ use borrow.Author.Tests.{not-true, eqb-true, eqb-false, eq-eqb, ne-eqb}
 use Rattle.definitions.proofs.Laws.Tests.{and-both}
 use Rattle.grammar.specs.declared.Line.{Line}
 use Rattle.grammar.specs.declared.Line.the-variants.{Refused}
+use Rattle.definitions.specs.Sizes.{handleLimit}
 use Rattle.grammar.specs.Templates.{isGap, limits, matched}
-use Rattle.grammar.specs.Grammar.{Rule, behindText, sized, orElse, parsedBy}
-use Rattle.grammar.proofs.TemplateSteps.{byte-fits, byte-misfits}
+use Rattle.grammar.specs.Grammar.{Rule, behindText, sized, sizedIn, orElse, parsedBy, parsedByIn}
+use Rattle.grammar.proofs.TemplateSteps.{limits-byte, byte-fits, byte-misfits}
 use Rattle.parser.specs.Readings.{verdict, numbersRoom, Reads}
 use Rattle.parser.specs.Texts.{starts, plain}
 
@@ -79,9 +80,9 @@ not-begun (b ∷ bs) t (x ∷ xs) bare e = go (eqb b x) refl e (not-begun bs t x
 
 -- a text has no gaps of its own
 limits-behind : (p t : List ℕ) → plain p ≡ true → limits (p ++ t) ≡ limits t
-unfolding limits
 limits-behind [] t bare = refl
-limits-behind (b ∷ bs) t bare = rw (plain-first b bs bare) (limits-behind bs t (plain-rest b bs bare))
+limits-behind (b ∷ bs) t bare =
+    limits-byte handleLimit b (bs ++ t) (plain-first b bs bare) ∙ limits-behind bs t (plain-rest b bs bare)
 
 -- ---- a template that is read in two parts
 
@@ -108,13 +109,13 @@ module _ (text rest line : List ℕ) (bare : plain text ≡ true) {numbers : Lis
 
 module _ (text : List ℕ) (line : List ℕ) (bare : plain text ≡ true) where
   pub forms-other : (rs : List Rule) → starts text line ≡ false → parsedBy (behindText text rs) line ≡ Refused 16
-  unfolding parsedBy
+  unfolding parsedByIn
   forms-other [] e = refl
   forms-other (r ∷ rs) e = rw (not-begun text (r .template) line bare e) (forms-other rs e)
 
   pub forms-behind : (rs : List Rule) → starts text line ≡ true
       → parsedBy (behindText text rs) line ≡ parsedBy rs (drop (length text) line)
-  unfolding parsedBy sized
+  unfolding parsedByIn sizedIn
   forms-behind [] e = refl
   forms-behind (r ∷ rs) e =
       rw (matched-behind text (r .template) line bare e)

@@ -6,10 +6,11 @@ use mathlib.Core.List.{List}
 use mathlib.Core.Option.{Option, none, some}
 use lib.Dec.{eqb}
 use lib.ListN.{length, take}
+use Rattle.definitions.specs.Sizes.{handleLimit}
 use Rattle.grammar.specs.declared.Call.{Call}
 use Rattle.grammar.specs.declared.Line.{Line}
 use Rattle.grammar.specs.declared.Line.the-variants.{Form, Refused}
-use Rattle.grammar.specs.Templates.{isGap, limitOf, limits, gaps, numbersFit, matched}
+use Rattle.grammar.specs.Templates.{isGap, limitIn, limits, gaps, numbersFit, matched}
 use Rattle.grammar.specs.Grammar.{behindText, termsForms, parsedBy}
 use Rattle.parser.specs.declared.Gap.{Gap}
 use Rattle.parser.specs.declared.Terms.{Terms}
@@ -17,7 +18,7 @@ use Rattle.parser.specs.Texts.{plain}
 
 -- whether a byte of a template is a gap, and its limit
 abbrev pub gapOf : ℕ → Gap
-gapOf byte = record { is = isGap byte; limit = limitOf byte }
+gapOf byte = record { is = isGap byte; limit = limitIn handleLimit byte }
 
 -- Shape is judged before size: "not a form of the grammar" is 16, "right shape, but a number above .." 17. What is found in the
 -- end, behind numbers of which one was too large or none, is held to the limits that are left.

@@ -481,7 +481,7 @@ fn parse_arrive(line: &[u8]) -> Line
         return Line::Refused { number: refused };
     }
     let packet = Packet {
-        handle: numbers[1] as u32,
+        handle: numbers[1],
         length: numbers[2] as u32,
     };
     Line::Form {

@@ -1,5 +1,6 @@
--- How long a template is when it is filled, and so the line of a slot: 32 bits have at most ten digits. Assumes nothing.
-use Prim.Native.Nat.{ℕ, suc, _+_, _*_, _^_, _≤_, _<_}
+-- How long a template is when it is filled: no longer than its bytes and the digits of its numbers. So the line of a slot has room:
+-- 32 bits have at most ten digits, and the 64 of a handle at most twenty. Assumes nothing.
+use Prim.Native.Nat.{ℕ, suc, _+_, _^_, _≤_, _<_}
 use native.Mathlib.Omega.{arith}
 use mathlib.Core.Path.{_≡_, refl}
 use mathlib.Core.Bool.{Bool, true, false}
@@ -9,41 +10,56 @@ use Rattle.definitions.specs.declared.Outcome.{Outcome}
 use Rattle.definitions.specs.declared.Outcome.the-variants.{Real, Dummy, Idle, None}
 use Rattle.definitions.specs.declared.Answer.the-variants.{Slot}
 use Rattle.definitions.specs.Answers.{values}
+use Rattle.grammar.specs.Numerals.{decimal}
 use Rattle.grammar.specs.Templates.{isGap, filled}
 use Rattle.grammar.specs.Printout.{printed}
 use Rattle.grammar.proofs.Decimals.{decimal-length}
 use Rattle.grammar.proofs.ReadBack.{filled-byte, filled-gap}
 use Rattle.printer.specs.Printed.{lineRoom}
 
--- numbers of 32 bits have at most ten digits
-abbrev pub Small : List ℕ → Type 0
-Small [] = Unit {0}
-Small (n ∷ ns) = (n < 2 ^ 32) × Small ns
+pub ten-digits : (n : ℕ) → n < 2 ^ 32 → length (decimal n) ≤ 10
+ten-digits n small = decimal-length 9 n (omega arith)
 
-pub filled-length : (template numbers : List ℕ) → Small numbers
-    → length (filled template numbers) ≤ length template + 10 * length numbers
+pub twenty-digits : (n : ℕ) → n < 2 ^ 64 → length (decimal n) ≤ 20
+twenty-digits n small = decimal-length 19 n (omega arith)
+
+-- the digits of some numbers together
+abbrev pub digitCount : List ℕ → ℕ
+digitCount [] = 0
+digitCount (n ∷ ns) = length (decimal n) + digitCount ns
+
+pub filled-length : (template numbers : List ℕ) → length (filled template numbers) ≤ length template + digitCount numbers
 unfolding filled
-filled-length [] numbers small = omega arith
-filled-length (b ∷ bs) [] small = omega (arith, filled-length bs [] small)
-filled-length (b ∷ bs) (n ∷ ns) small = go (isGap b) refl (filled-length bs ns (small .1)) (filled-length bs (n ∷ ns) small)
+filled-length [] numbers = omega arith
+filled-length (b ∷ bs) [] = omega (arith, filled-length bs [])
+filled-length (b ∷ bs) (n ∷ ns) = go (isGap b) refl (filled-length bs ns) (filled-length bs (n ∷ ns))
   where
     go : (t : Bool) → isGap b ≡ t
-        → length (filled bs ns) ≤ length bs + 10 * length ns
-        → length (filled bs (n ∷ ns)) ≤ length bs + 10 * suc (length ns)
-        → length (filled (b ∷ bs) (n ∷ ns)) ≤ suc (length bs) + 10 * suc (length ns)
-    go true g taken kept = rw (filled-gap b bs n ns g) (simp length-append (omega (arith, decimal-length 9 n (omega (arith, small .0)))))
+        → length (filled bs ns) ≤ length bs + digitCount ns
+        → length (filled bs (n ∷ ns)) ≤ length bs + digitCount (n ∷ ns)
+        → length (filled (b ∷ bs) (n ∷ ns)) ≤ suc (length bs) + digitCount (n ∷ ns)
+    go true g taken kept = rw (filled-gap b bs n ns g) (simp length-append (omega arith))
     go false g taken kept = rw (filled-byte b bs (n ∷ ns) g) (omega arith)
 
--- so a filled template has at most the room of a line, where that holds it with ten bytes for each number
-module _ (template numbers : List ℕ) (small : Small numbers) (short : length template + 10 * length numbers ≤ lineRoom) where
+-- so a filled template has at most the room of a line, where that holds it and the digits
+module _ (template numbers : List ℕ) (short : length template + digitCount numbers ≤ lineRoom) where
   pub filled-room : (at : ℕ) {size : ℕ} → at + lineRoom ≤ size → at + length (filled template numbers) ≤ size
-  filled-room at room = omega (arith, filled-length template numbers small)
+  filled-room at room = omega (arith, filled-length template numbers)
+
+-- an outcome of the code's widths
+abbrev pub Narrow : Outcome → Type 0
+Narrow (Real id packet padding) = (id < 2 ^ 32) × (packet .handle < 2 ^ 64) × (packet .length < 2 ^ 32) × (padding < 2 ^ 32)
+Narrow (Dummy id) = id < 2 ^ 32
+Narrow (Idle id) = id < 2 ^ 32
+Narrow None = Unit {0}
 
 -- so has the line of a slot
-pub slot-room : (outcome : Outcome) → Small (values outcome) → (at : ℕ) {size : ℕ} → at + lineRoom ≤ size
+pub slot-room : (outcome : Outcome) → Narrow outcome → (at : ℕ) {size : ℕ} → at + lineRoom ≤ size
     → at + length (printed (Slot outcome)) ≤ size
 unfolding printed values
-slot-room (Real id packet padding) small at room = filled-room _ _ small (omega arith) at room
-slot-room (Dummy id) small at room = filled-room _ _ small (omega arith) at room
-slot-room (Idle id) small at room = filled-room _ _ small (omega arith) at room
-slot-room None small at room = filled-room _ _ small (omega arith) at room
+slot-room (Real id packet padding) narrow at room =
+    filled-room _ _
+    (omega (arith, ten-digits id (narrow .0), twenty-digits _ (narrow .1), ten-digits _ (narrow .2), ten-digits padding (narrow .3))) at room
+slot-room (Dummy id) narrow at room = filled-room _ _ (omega (arith, ten-digits id narrow)) at room
+slot-room (Idle id) narrow at room = filled-room _ _ (omega (arith, ten-digits id narrow)) at room
+slot-room None narrow at room = filled-room _ _ (omega arith) at room

@@ -10,9 +10,10 @@ use Rattle.grammar.specs.Numerals.{decimal}
 use Rattle.grammar.specs.Printout.{printed}
 use Rattle.printer.specs.Appended.{Appended}
 
--- the room of a line
+-- The room of a line. The longest is a slot's with a packet: a template of 22 bytes, three numbers of ten digits, and a handle of
+-- twenty.
 abbrev pub lineRoom : ℕ
-lineRoom = 64
+lineRoom = 72
 
 pub record LineWritten (line before : List ℕ) (at : ℕ) (after : List ℕ) (end : ℕ) : Type 0 where
   pub written : at + lineRoom ≤ length before → Appended line before at after end

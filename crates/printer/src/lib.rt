@@ -15,10 +15,10 @@ ghost use Rattle.grammar.specs.FairSheet.{rateLine};
 ghost use Rattle.printer.specs.Appended.{Appended};
 ghost use Rattle.printer.specs.Printed.{lineRoom, LineWritten, Printed, wordRoom, pairLine};
 
-// The room that a line is given. No line of numbers of 32 bits is longer.
-pub const LINE_ROOM: usize = 64;
+// The room that a line is given. No line of numbers of 32 bits and a handle of 64 is longer.
+pub const LINE_ROOM: usize = 72;
 
-const ZERO: u32 = 48;
+const ZERO: u64 = 48;
 
 // Whether a line's room is left behind a place, with no sum that could wrap.
 pub fn has_room(size: usize, at: usize) -> bool
@@ -44,7 +44,7 @@ fn put(out: &mut [u8], at: usize, text: &[u8]) -> usize
 }
 
 // Writes the last two digits of a number.
-fn put_two(out: &mut [u8], at: usize, n: u32) -> usize
+fn put_two(out: &mut [u8], at: usize, n: u64) -> usize
     requires { ⌜ at + 2 ≤ length (now out) ⌝ }
     ensures { λ r. ⌜ Appended ((48 + n / 10 % 10) ∷ (48 + n % 10) ∷ []) (now (out .entry)) at (now (out .exit)) r ⌝ }
 {
@@ -54,7 +54,7 @@ fn put_two(out: &mut [u8], at: usize, n: u32) -> usize
 }
 
 // Writes a number of one digit or two.
-fn put_small(out: &mut [u8], at: usize, n: u32) -> usize
+fn put_small(out: &mut [u8], at: usize, n: u64) -> usize
     requires { ⌜ (n < 100) × (at + length (decimal n) ≤ length (now out)) ⌝ }
     ensures { λ r. ⌜ Appended (decimal n) (now (out .entry)) at (now (out .exit)) r ⌝ }
 {
@@ -66,7 +66,7 @@ fn put_small(out: &mut [u8], at: usize, n: u32) -> usize
 }
 
 // Writes a number, its last two digits behind those of n / 100.
-fn put_large(out: &mut [u8], at: usize, n: u32) -> usize
+fn put_large(out: &mut [u8], at: usize, n: u64) -> usize
     requires { ⌜ at + length (decimal n) ≤ length (now out) ⌝ }
     ensures { λ r. ⌜ Appended (decimal n) (now (out .entry)) at (now (out .exit)) r ⌝ }
 {
@@ -78,7 +78,7 @@ fn put_large(out: &mut [u8], at: usize, n: u32) -> usize
 }
 
 // Writes a text and a number behind it. Most numbers are small, and are written without a call.
-fn put_number(out: &mut [u8], at: usize, text: &[u8], n: u32) -> usize
+fn put_number(out: &mut [u8], at: usize, text: &[u8], n: u64) -> usize
     requires { ⌜ at + length (now text ++ decimal n) ≤ length (now out) ⌝ }
     ensures { λ r. ⌜ Appended (now (text .entry) ++ decimal n) (now (out .entry)) at (now (out .exit)) r ⌝ }
 {
@@ -96,7 +96,7 @@ fn put_between(out: &mut [u8], at: usize, before: &[u8], n: u32, behind: &[u8]) 
     ensures { λ r. ⌜ Appended ((now (before .entry) ++ decimal n) ++ now (behind .entry))
         (now (out .entry)) at (now (out .exit)) r ⌝ }
 {
-    let end = put_number(out, at, before, n);
+    let end = put_number(out, at, before, n as u64);
     put(out, end, behind)
 }
 
@@ -106,9 +106,9 @@ fn put_real(out: &mut [u8], at: usize, id: u32, packet: Packet, padding: u32) ->
     ensures { λ r. ⌜ Appended (printed (Answer.Slot (Outcome.Real id packet padding)))
         (now (out .entry)) at (now (out .exit)) r ⌝ }
 {
-    let id_end = put_number(out, at, b"(slot (real ", id);
+    let id_end = put_number(out, at, b"(slot (real ", id as u64);
     let handle_end = put_number(out, id_end, b" ", packet.handle);
-    let length_end = put_number(out, handle_end, b" ", packet.length);
+    let length_end = put_number(out, handle_end, b" ", packet.length as u64);
     put_between(out, length_end, b" ", padding, b"))\n")
 }
 
@@ -161,7 +161,7 @@ fn print_pair(out: &mut [u8], at: usize, text: &[u8], first: u32, second: u32) -
     if !has_room(out.len(), at) {
         return at;
     }
-    let end = put_number(out, at, text, first);
+    let end = put_number(out, at, text, first as u64);
     put_between(out, end, b" ", second, b")\n")
 }
 

@@ -46,7 +46,7 @@ fn waits_at(stocks: &[u32; STOCKS], place: u32) -> bool
 // Overwrites one place, unless a packet waits there.
 fn overwrite_at(
     stocks: &[u32; STOCKS],
-    handles: &mut [u32; STORE],
+    handles: &mut [u64; STORE],
     lengths: &mut [u32; STORE],
     place: u32,
     number: u32,
@@ -59,14 +59,14 @@ fn overwrite_at(
         return;
     }
     let at = place as usize;
-    handles[at] = number;
+    handles[at] = number as u64;
     lengths[at] = number;
 }
 
 // Overwrites every place where no packet waits.
 fn overwrite_unused(
     stocks: &[u32; STOCKS],
-    handles: &mut [u32; STORE],
+    handles: &mut [u64; STORE],
     lengths: &mut [u32; STORE],
     number: u32,
 )
@@ -85,9 +85,9 @@ fn stretch(
     progress: Progress,
     terms: &mut [u32; TERMS],
     stocks: &mut [u32; STOCKS],
-    handles: &mut [u32; STORE],
+    handles: &mut [u64; STORE],
     lengths: &mut [u32; STORE],
-    links: &mut [u32; LINKS],
+    links: &mut [u16; LINKS],
     number: u32,
 ) -> Progress
     requires { ⌜ Valid (progress .control) (tables (now terms) (now stocks) (now handles) (now lengths) (now links)) ⌝ }
@@ -105,9 +105,9 @@ fn block(
     progress: Progress,
     terms: &mut [u32; TERMS],
     stocks: &mut [u32; STOCKS],
-    handles: &mut [u32; STORE],
+    handles: &mut [u64; STORE],
     lengths: &mut [u32; STORE],
-    links: &mut [u32; LINKS],
+    links: &mut [u16; LINKS],
     number: u32,
 ) -> Progress
     requires { ⌜ Valid (progress .control) (tables (now terms) (now stocks) (now handles) (now lengths) (now links)) ⌝ }
@@ -130,9 +130,9 @@ fn start(
     seed: u32,
     terms: &mut [u32; TERMS],
     stocks: &mut [u32; STOCKS],
-    handles: &mut [u32; STORE],
+    handles: &mut [u64; STORE],
     lengths: &mut [u32; STORE],
-    links: &mut [u32; LINKS],
+    links: &mut [u16; LINKS],
 ) -> Progress
     ensures { λ r. ⌜ Starts earlier seed r
         (tables (now (terms .exit)) (now (stocks .exit)) (now (handles .exit)) (now (lengths .exit)) (now (links .exit))) ⌝ }
@@ -162,9 +162,9 @@ fn blocks(
     count: u32,
     terms: &mut [u32; TERMS],
     stocks: &mut [u32; STOCKS],
-    handles: &mut [u32; STORE],
+    handles: &mut [u64; STORE],
     lengths: &mut [u32; STORE],
-    links: &mut [u32; LINKS],
+    links: &mut [u16; LINKS],
     number: u32,
 ) {
     let mut at = start(earlier, seed, terms, stocks, handles, lengths, links);
@@ -178,13 +178,13 @@ fn blocks(
     }
 }
 
-// A run on tables of its own, which hold a number throughout.
+// A run on tables of its own, which hold a number throughout, the links its lower half.
 fn run(seed: u32, count: u32, number: u32, earlier: u32) {
     let mut terms: [u32; TERMS] = [number; TERMS];
     let mut stocks: [u32; STOCKS] = [number; STOCKS];
-    let mut handles: [u32; STORE] = [number; STORE];
+    let mut handles: [u64; STORE] = [number as u64; STORE];
     let mut lengths: [u32; STORE] = [number; STORE];
-    let mut links: [u32; LINKS] = [number; LINKS];
+    let mut links: [u16; LINKS] = [(number % 65536) as u16; LINKS];
     blocks(
         earlier,
         seed,

@@ -1,6 +1,6 @@
 -- The calls of a long run (docs/LONG_RUNS.md, "The calls"). "Each call takes four draws, a, b, c and d, in this order,
 -- whatever call it is."
-use Prim.Native.Nat.{ℕ, _+_, _*_, _/_, _%_}
+use Prim.Native.Nat.{ℕ, _+_, _*_, _/_, _%_, _^_}
 use mathlib.Core.Bool.{Bool, not, cond}
 use lib.Dec.{eqb, leb}
 use Rattle.definitions.specs.declared.Packet.{Packet}
@@ -31,9 +31,9 @@ burstOf kind d = cond (eqb kind 1) (byUpper d (d / 64 % 66) 64) (d / 64 % 66 / 6
 abbrev pub thresholdFrom : ℕ → ℕ
 thresholdFrom b = byUpper b (b % 1026) 1024
 
--- "a packet with handle d and length 63 + c mod 1457"
+-- "a packet with handle c · 4294967296 + d and length 63 + c mod 1457"
 abbrev pub packetOf : ℕ → ℕ → Packet
-packetOf c d = record { handle = d; length = 63 + c % 1457 }
+packetOf c d = record { handle = c * 2 ^ 32 + d; length = 63 + c % 1457 }
 
 -- the table of the calls, by the last k of each row: load, "in a busy time arrive ..; in a quiet time tick" and tick; then all
 unfoldable pub trafficAt : Bool → ℕ → ℕ → ℕ → ℕ → Call

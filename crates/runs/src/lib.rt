@@ -17,6 +17,9 @@ ghost use Rattle.runs.specs.Calls.{byUpper, idOf, rateOf, burstOf, packe
 ghost use Rattle.runs.specs.Check.{mix, checkWith};
 ghost use Rattle.runs.specs.Stands.{Begins, Drawn, Takes, Goes};
 
+// One more than the largest number of 32 bits. A handle is made of two draws, and gives the check two words.
+const WORD: u64 = 4294967296;
+
 // The maker of calls: the generator that it draws from, and whether the time is quiet.
 pub struct Maker {
     pub generator: Generator,
@@ -80,7 +83,7 @@ pub fn packet_of(c: u32, d: u32) -> Packet
     ensures { λ r. ⌜ r ≡ packetOf c d ⌝ }
 {
     Packet {
-        handle: d,
+        handle: c as u64 * WORD + d as u64,
         length: 63 + c % 1457,
     }
 }
@@ -192,7 +195,9 @@ fn check_slot(h: u32, outcome: Outcome) -> u32
             padding,
         } => {
             let named = mix(mix(h, 3), id);
-            mix(mix(mix(named, packet.handle), packet.length), padding)
+            let low = mix(named, (packet.handle % WORD) as u32);
+            let high = mix(low, (packet.handle / WORD) as u32);
+            mix(mix(high, packet.length), padding)
         }
         Outcome::Dummy { id } => mix(mix(h, 4), id),
         Outcome::Idle { id } => mix(mix(h, 5), id),
@@ -231,9 +236,9 @@ pub fn take(
     progress: Progress,
     terms: &mut [u32; TERMS],
     stocks: &mut [u32; STOCKS],
-    handles: &mut [u32; STORE],
+    handles: &mut [u64; STORE],
     lengths: &mut [u32; STORE],
-    links: &mut [u32; LINKS],
+    links: &mut [u16; LINKS],
     maker: Maker,
     call: Call,
 ) -> Taken
@@ -269,9 +274,9 @@ fn call_once(
     progress: Progress,
     terms: &mut [u32; TERMS],
     stocks: &mut [u32; STOCKS],
-    handles: &mut [u32; STORE],
+    handles: &mut [u64; STORE],
     lengths: &mut [u32; STORE],
-    links: &mut [u32; LINKS],
+    links: &mut [u16; LINKS],
 ) -> Progress
     requires { ⌜ Valid (progress .control) (tables (now terms) (now stocks) (now handles) (now lengths) (now links)) ⌝ }
     ensures { λ r. ⌜ Goes 1 progress
@@ -300,9 +305,9 @@ pub fn calls(
     progress: Progress,
     terms: &mut [u32; TERMS],
     stocks: &mut [u32; STOCKS],
-    handles: &mut [u32; STORE],
+    handles: &mut [u64; STORE],
     lengths: &mut [u32; STORE],
-    links: &mut [u32; LINKS],
+    links: &mut [u16; LINKS],
     count: u32,
 ) -> Progress
     requires { ⌜ Valid (progress .control) (tables (now terms) (now stocks) (now handles) (now lengths) (now links)) ⌝ }

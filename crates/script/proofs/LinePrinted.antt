@@ -6,10 +6,11 @@ use native.Mathlib.Omega.{arith}
 use lib.ListN.{length, getD, take, drop, length-drop, drop-of-length-le}
 use lib.Seq.{drop-cons, take-all, take-nil}
 use Rattle.definitions.specs.declared.Answer.the-variants.{Refused}
+use Rattle.definitions.specs.Sizes.{handleLimit}
 use Rattle.definitions.specs.State.{Core}
 use Rattle.grammar.specs.Bytes.{lineFeed, Unbroken}
 use Rattle.grammar.specs.Grammar.{parsed}
-use Rattle.grammar.specs.Printout.{printed, answered, printedFrom, coreFrom}
+use Rattle.grammar.specs.Printout.{printed, answered, printedFrom, printedFromIn, coreFrom, coreFromIn}
 use Rattle.grammar.proofs.Lines.{line-closed, line-open, core-closed, core-open}
 use Rattle.reader.specs.LineSpans.{between}
 use Rattle.reader.proofs.LinesAhead.{split-closed, between-closed}
@@ -17,17 +18,17 @@ use Rattle.script.specs.Pieces.{ahead, coreBehind}
 
 -- nothing is ahead behind the last byte
 pub ahead-none : (core : Core) (text : List ℕ) (at : ℕ) → length text ≤ at → ahead core text at ≡ []
-unfolding printedFrom
+unfolding printedFromIn
 ahead-none core text at past = ap (printedFrom core []) (drop-of-length-le text past)
 
 -- and up to the place itself no byte is passed
 pub core-here : (core : Core) (text : List ℕ) (at : ℕ) → coreBehind core text at at ≡ core
-unfolding coreFrom
+unfolding coreFromIn
 core-here core text at = let none : at - at ≡ 0 = omega arith in ap (λ (n : ℕ). coreFrom core [] (take n (drop at text))) none
 
 -- nor behind the last byte
 pub core-past : (core : Core) (text : List ℕ) (at upto : ℕ) → length text ≤ at → coreBehind core text at upto ≡ core
-unfolding coreFrom
+unfolding coreFromIn
 core-past core text at upto past =
     ap (coreFrom core []) (ap (take (upto - at)) (drop-of-length-le text past) ∙ take-nil (upto - at))
 
@@ -37,7 +38,7 @@ module _ (text : List ℕ) (at end : ℕ) (forth : at ≤ end) (inside : end < l
       → coreBehind (answered core (parsed (between text at end)) .core) text (suc end) upto ≡ coreBehind core text at upto
   closed-core core whole upto past =
       sym (ap (coreFrom core []) (between-closed text at end forth inside feed upto past)
-      ∙ core-closed core (between text at end) (between text (suc end) upto) whole)
+      ∙ core-closed handleLimit core (between text at end) (between text (suc end) upto) whole)
 
 -- bytes that no line feed closes leave the core
 pub open-core : (core : Core) (text : List ℕ) (at : ℕ) → at ≤ length text → Unbroken (drop at text)
@@ -46,7 +47,7 @@ pub open-core : (core : Core) (text : List ℕ) (at : ℕ) → at ≤ length tex
 open-core core text at inside whole upto past =
     let all = take-all (upto - at) (drop at text) (omega (arith, length-drop at text)) in
     core-past core text (length text) upto (omega arith)
-    ∙ sym (ap (coreFrom core []) all ∙ core-open core (drop at text) whole)
+    ∙ sym (ap (coreFrom core []) all ∙ core-open handleLimit core (drop at text) whole)
 
 module _ (core : Core) (text : List ℕ) (at : ℕ) (before after : List ℕ) where
   -- a line that a line feed closes
@@ -59,7 +60,7 @@ module _ (core : Core) (text : List ℕ) (at : ℕ) (before after : List ℕ) wh
     closed-printed inside feed whole wrote =
         let line = between text at end in
         let split = split-closed text at end forth inside feed in
-        let first = ap (printedFrom core []) split ∙ line-closed core line (drop (suc end) text) whole in
+        let first = ap (printedFrom core []) split ∙ line-closed handleLimit core line (drop (suc end) text) whole in
         ap (λ (l : List ℕ). l ++ ahead (answered core (parsed line) .core) text (suc end)) wrote
         ∙ append-assoc before _ _
         ∙ ap (λ (l : List ℕ). before ++ l) (sym first)
@@ -71,7 +72,7 @@ module _ (core : Core) (text : List ℕ) (at : ℕ) (before after : List ℕ) wh
       → after ++ ahead core text (length text) ≡ before ++ ahead core text at
   open-printed inside whole wrote =
       let bytes : drop at text ≡ getD text at 0 ∷ drop (suc at) text = drop-cons text at 0 inside in
-      let last = ap (printedFrom core []) bytes ∙ line-open core (getD text at 0) (drop (suc at) text) (rw bytes at whole) in
+      let last = ap (printedFrom core []) bytes ∙ line-open handleLimit core (getD text at 0) (drop (suc at) text) (rw bytes at whole) in
       ap (λ (l : List ℕ). after ++ l) (ahead-none core text (length text) (omega arith))
       ∙ append-nil after
       ∙ wrote

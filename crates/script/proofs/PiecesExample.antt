@@ -14,7 +14,7 @@ use Rattle.definitions.proofs.Laws.Tests.{lt-cases, true-false}
 use Rattle.grammar.specs.Bytes.{bytes, textLimit}
 use Rattle.grammar.specs.Printout.{printed, coreFrom}
 use Rattle.grammar.proofs.Examples.{printing}
-use Rattle.printer.specs.Printed.{Printed}
+use Rattle.printer.specs.Printed.{lineRoom, Printed}
 use Rattle.reader.specs.LineSpans.{lineEnd, spanAt, LineEnd}
 use Rattle.reader.proofs.LineEnds.{span-end}
 use Rattle.tables.specs.declared.Control.{Control}
@@ -49,10 +49,10 @@ module _ (text : List ℕ) (inside : 0 < length text) (c : Control) (t : Tables)
   all = ahead first text 0
 
   abbrev out : List ℕ
-  out = all ++ replicate 64 0
+  out = all ++ replicate lineRoom 0
 
-  room : length out ≡ length all + 64
-  room = length-append all (replicate 64 0)
+  room : length out ≡ length all + lineRoom
+  room = length-append all (replicate lineRoom 0)
 
   core : (upto : ℕ) → length text ≤ upto → coreBehind (coreOf c t) text (length text) upto ≡ coreBehind first text 0 upto
   core upto past =
@@ -67,7 +67,7 @@ module _ (text : List ℕ) (inside : 0 < length text) (c : Control) (t : Tables)
       printed =
           ap (λ (l : List ℕ). take (length all) out ++ l) (ahead-none (coreOf c t) text (length text) (omega arith))
           ∙ append-nil (take (length all) out)
-          ∙ take-append-seam all (replicate 64 0);
+          ∙ take-append-seam all (replicate lineRoom 0);
       fits = omega (arith, room);
       core = core;
       forth = omega arith;
@@ -88,7 +88,7 @@ read text short (c, t, valid, held) =
     ([], shut, emptyTables, subst (λ (n : ℕ). Written text [] n shut emptyTables) empty begun))
   where
     begun : Written text [] 0 shut emptyTables
-    begun = started (start-read text shut new (replicate 64 0) short) (omega arith)
+    begun = started (start-read text shut new (replicate lineRoom 0) short) (omega arith)
 
 -- an open is accepted
 opened : Meets (Open 50 1 7) shut emptyTables (record { control = emptyControl true 50 1 7; answer = Accepted }) emptyTables
@@ -108,12 +108,12 @@ held = (
 long : (text : List ℕ) → textLimit < length text → Ended text
 unfolding printing
 long text over =
-    (take 13 out, shut, emptyTables, started (start-long text shut new (replicate 64 0) out 13 over wrote refl) (omega arith))
+    (take 13 out, shut, emptyTables, started (start-long text shut new (replicate lineRoom 0) out 13 over wrote refl) (omega arith))
   where
     out : List ℕ
-    out = sets (replicate 64 0) 0 (printed (Refused 18))
+    out = sets (replicate lineRoom 0) 0 (printed (Refused 18))
 
-    wrote : Printed (Refused 18) (replicate 64 0) 0 out 13
+    wrote : Printed (Refused 18) (replicate lineRoom 0) 0 out 13
     wrote = record {
       written = λ room. record { place = refl; room = omega arith; bytes = refl };
       untouched = λ little. absurd (omega arith);
@@ -176,7 +176,7 @@ rest = record {
 
 three : ThreePieces shut emptyTables
 unfolding textLimit
-three = record { start = start-read twoLines shut new (replicate 64 0) (omega arith); bare = bare; line = line; rest = rest }
+three = record { start = start-read twoLines shut new (replicate lineRoom 0) (omega arith); bare = bare; line = line; rest = rest }
 
 pub pieces-exist : PiecesExist
 pieces-exist = record {

@@ -11,7 +11,7 @@ use Rattle.definitions.specs.declared.Answer.the-variants.{Refused}
 use Rattle.definitions.specs.State.{Core, unopened}
 use Rattle.definitions.proofs.Laws.Tests.{lt-cases}
 use Rattle.grammar.specs.Bytes.{textLimit}
-use Rattle.grammar.specs.Printout.{printed, coreFrom, printout}
+use Rattle.grammar.specs.Printout.{printed, coreFrom, coreFromIn, printout, printoutIn}
 use Rattle.printer.specs.Printed.{lineRoom, Printed}
 use Rattle.printer.proofs.Appending.{appended-front}
 use Rattle.tables.specs.declared.Control.{Control}
@@ -91,9 +91,9 @@ piece-alike p before upto past = p .walked .core upto past ∙ before upto (omeg
 
 module _ (text : List ℕ) (c : Control) (new : (t : Tables) → (coreOf c t ≡ unopened) × Valid c t) where
   pub start-read : (out : List ℕ) → length text ≤ textLimit → Start text out (record { control = c; next = 0; written = 0 })
-  unfolding printout
+  unfolding printoutIn
   start-read out short = record {
-    printed = λ room. rw (printout, le-ltb textLimit (length text) short) refl;
+    printed = λ room. rw (printoutIn, le-ltb textLimit (length text) short) refl;
     bare = λ little. refl;
     fits = omega arith;
     next = rw (le-ltb textLimit (length text) short) refl;
@@ -103,13 +103,13 @@ module _ (text : List ℕ) (c : Control) (new : (t : Tables) → (coreOf c t ≡
   pub start-long : (out last : List ℕ) (written : ℕ) → textLimit < length text → Printed (Refused 18) out 0 last written
       → length last ≡ length out
       → Start text last (record { control = c; next = length text; written = written })
-  unfolding printout
+  unfolding printoutIn
   start-long out last written over p same = record {
     printed = λ room.
         ap (λ (l : List ℕ). take written last ++ l) (ahead-none unopened text (length text) (omega arith))
         ∙ append-nil (take written last)
         ∙ appended-front (p .written (omega arith))
-        ∙ rw (printout, lt-ltb textLimit (length text) over) refl;
+        ∙ rw (printoutIn, lt-ltb textLimit (length text) over) refl;
     bare = λ little. p .untouched (omega arith) .0;
     fits = fits;
     next = rw (lt-ltb textLimit (length text) over) refl;

@@ -2,13 +2,14 @@
 -- tables hold the core behind it, as they do behind an open; and, as an example, those of a text of two lines into three
 -- buffers. The first has no room for a line, and nothing is written; the second has room for one line; the third is given the
 -- rest.
-use Prim.Native.Nat.{ℕ, _≤_, _<_}
+use Prim.Native.Nat.{ℕ, _-_, _≤_, _<_}
 use mathlib.Core.Path.{_≡_}
 use mathlib.Core.List.{List, [], _++_}
 use lib.ListN.{length, replicate}
 use Rattle.definitions.specs.State.{unopened}
 use Rattle.grammar.specs.Bytes.{bytes, textLimit}
 use Rattle.grammar.specs.Printout.{coreFrom}
+use Rattle.printer.specs.Printed.{lineRoom}
 use Rattle.tables.specs.declared.Control.{Control}
 use Rattle.tables.specs.Tables.{Tables}
 use Rattle.tables.specs.Meaning.{coreOf}
@@ -19,15 +20,15 @@ use Rattle.script.specs.Pieces.{Start, Piece, Written}
 abbrev pub twoLines : List ℕ
 twoLines = bytes "(tick)\n(leave 5"
 
--- a buffer of 64 bytes that begins with a line of thirteen
+-- a buffer with the room of a line that begins with a line of thirteen bytes
 abbrev pub buffer : List ℕ → List ℕ
-buffer line = line ++ replicate 51 0
+buffer line = line ++ replicate (lineRoom - 13) 0
 
 abbrev pub progress : Control → ℕ → ℕ → Progress
 progress c next written = record { control = c; next = next; written = written }
 
 pub record ThreePieces (c : Control) (t : Tables) : Type 0 where
-  pub start : Start twoLines (replicate 64 0) (progress c 0 0)
+  pub start : Start twoLines (replicate lineRoom 0) (progress c 0 0)
   pub bare : Piece twoLines 0 c t [] (progress c 0 0) t
   pub line : Piece twoLines 0 c t (buffer (bytes "(refused 19)\n")) (progress c 7 13) t
   pub rest : Piece twoLines 7 c t (buffer (bytes "(refused 16)\n")) (progress c 15 13) t

@@ -99,7 +99,7 @@ fn draw_among(
 
 // The first of rules 1 to 3 that applies, and whom it picks: "no mark among the indifferent means that none of them waits".
 // The private are drawn among whether they wait or not.
-fn turn(control: Control, terms: &[u32; TERMS], links: &[u32; LINKS]) -> Choice
+fn turn(control: Control, terms: &[u32; TERMS], links: &[u16; LINKS]) -> Choice
     requires { ⌜ SoundWith control (now terms) (now links) ⌝ }
     ensures { λ r. ⌜ ((k h l : List ℕ) → SoundCore control (tables (now (terms .entry)) k h l (now (links .entry)))
         → Chosen r (turn (stateOf control (tables (now (terms .entry)) k h l (now (links .entry)))))) ⌝ }
@@ -135,7 +135,7 @@ struct Sent {
 }
 
 // The packet that lies at a place.
-fn packet_at(handles: &[u32; STORE], lengths: &[u32; STORE], place: u32) -> Packet
+fn packet_at(handles: &[u64; STORE], lengths: &[u32; STORE], place: u32) -> Packet
     requires { ⌜ place < sentinel ⌝ }
     ensures { λ r. ⌜ ((e k n : List ℕ) → r ≡ packetAt (tables e k (now (handles .entry)) (now (lengths .entry)) n) place) ⌝ }
 {
@@ -172,7 +172,7 @@ fn pop(stocks: &mut [u32; STOCKS], id: u32)
 }
 
 // Takes a place out of the order of acceptance, where only indifferent packets stand.
-fn leave_order(control: Control, links: &mut [u32; LINKS], id: u32, place: u32)
+fn leave_order(control: Control, links: &mut [u16; LINKS], id: u32, place: u32)
     requires { ⌜ Sound (now links) ⌝ }
     ensures { λ r. ⌜ Unlinked (marked (control .indifferent) id) place (now (links .entry)) (now (links .exit)) ⌝ }
 {
@@ -197,9 +197,9 @@ fn settle(control: Control, left: u32, id: u32) -> Control
 fn send_packet(
     control: Control,
     stocks: &mut [u32; STOCKS],
-    handles: &[u32; STORE],
+    handles: &[u64; STORE],
     lengths: &[u32; STORE],
-    links: &mut [u32; LINKS],
+    links: &mut [u16; LINKS],
     id: u32,
 ) -> Sent
     requires { ⌜ SomeSender control (now stocks) (now handles) (now lengths) (now links) id × (0 < countAt (now stocks) id) ⌝ }
@@ -226,9 +226,9 @@ fn send_packet(
 fn send(
     control: Control,
     stocks: &mut [u32; STOCKS],
-    handles: &[u32; STORE],
+    handles: &[u64; STORE],
     lengths: &[u32; STORE],
-    links: &mut [u32; LINKS],
+    links: &mut [u16; LINKS],
     id: u32,
 ) -> Sent
     requires { ⌜ SomeSender control (now stocks) (now handles) (now lengths) (now links) id ⌝ }
@@ -257,9 +257,9 @@ fn send(
 fn spend(
     control: Control,
     stocks: &mut [u32; STOCKS],
-    handles: &[u32; STORE],
+    handles: &[u64; STORE],
     lengths: &[u32; STORE],
-    links: &mut [u32; LINKS],
+    links: &mut [u16; LINKS],
     choice: Choice,
 ) -> Sent
     requires { ⌜ SomeDue control (now stocks) (now handles) (now lengths) (now links) choice ⌝ }
@@ -335,9 +335,9 @@ pub fn tick(
     control: Control,
     terms: &mut [u32; TERMS],
     stocks: &mut [u32; STOCKS],
-    handles: &[u32; STORE],
+    handles: &[u64; STORE],
     lengths: &[u32; STORE],
-    links: &mut [u32; LINKS],
+    links: &mut [u16; LINKS],
 ) -> Ticked
     requires { ⌜ Valid control (tables (now terms) (now stocks) (now handles) (now lengths) (now links)) ⌝ }
     ensures { λ r. ⌜ Promised Tick control

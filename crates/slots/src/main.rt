@@ -40,9 +40,9 @@ fn write_pieces(
     first: Progress,
     terms: &mut [u32; TERMS],
     stocks: &mut [u32; STOCKS],
-    handles: &mut [u32; STORE],
+    handles: &mut [u64; STORE],
     lengths: &mut [u32; STORE],
-    links: &mut [u32; LINKS],
+    links: &mut [u16; LINKS],
 ) -> Writing
     requires { ⌜ Start (now text) (now out) first × (pieceRoom ≡ length (now out)) ⌝ }
     ensures { λ r. ⌜ HandedOn r (printout (now (text .entry))) ⌝ }
@@ -80,9 +80,9 @@ fn write_printout(text: &[u8]) -> Writing
 {
     let mut terms: [u32; TERMS] = [0; TERMS];
     let mut stocks: [u32; STOCKS] = [0; STOCKS];
-    let mut handles: [u32; STORE] = [0; STORE];
+    let mut handles: [u64; STORE] = [0; STORE];
     let mut lengths: [u32; STORE] = [0; STORE];
-    let mut links: [u32; LINKS] = [0; LINKS];
+    let mut links: [u16; LINKS] = [0; LINKS];
     let mut out = io::buffer();
     let first = script::start(text, &mut out);
     write_pieces(
@@ -103,9 +103,9 @@ fn write_forecast(text: &[u8], ticks: u32) -> Writing
 {
     let mut terms: [u32; TERMS] = [0; TERMS];
     let mut stocks: [u32; STOCKS] = [0; STOCKS];
-    let mut handles: [u32; STORE] = [0; STORE];
+    let mut handles: [u64; STORE] = [0; STORE];
     let mut lengths: [u32; STORE] = [0; STORE];
-    let mut links: [u32; LINKS] = [0; LINKS];
+    let mut links: [u16; LINKS] = [0; LINKS];
     let mut out = io::buffer();
     let written = forecast::forecast(
         text,

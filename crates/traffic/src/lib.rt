@@ -50,9 +50,9 @@ pub fn load(
     control: Control,
     terms: &[u32; TERMS],
     stocks: &mut [u32; STOCKS],
-    handles: &[u32; STORE],
+    handles: &[u64; STORE],
     lengths: &[u32; STORE],
-    links: &[u32; LINKS],
+    links: &[u16; LINKS],
     id: u32,
     dummies: u32,
 ) -> Answered
@@ -115,7 +115,7 @@ fn free_place(stocks: &[u32; STOCKS], id: u32) -> u32
 }
 
 // Puts a packet at a place.
-fn keep(handles: &mut [u32; STORE], lengths: &mut [u32; STORE], place: u32, packet: Packet)
+fn keep(handles: &mut [u64; STORE], lengths: &mut [u32; STORE], place: u32, packet: Packet)
     requires { ⌜ place < ids * places ⌝ }
     ensures { λ r. ⌜ now (handles .exit) ≡ set (now (handles .entry)) place (packet .handle) ⌝ }
     ensures { λ r. ⌜ now (lengths .exit) ≡ set (now (lengths .entry)) place (packet .length) ⌝ }
@@ -151,9 +151,9 @@ pub fn arrive(
     control: Control,
     terms: &mut [u32; TERMS],
     stocks: &mut [u32; STOCKS],
-    handles: &mut [u32; STORE],
+    handles: &mut [u64; STORE],
     lengths: &mut [u32; STORE],
-    links: &mut [u32; LINKS],
+    links: &mut [u16; LINKS],
     id: u32,
     packet: Packet,
 ) -> Answered

@@ -1,4 +1,4 @@
--- `fair::write_printout` meets its contract: the buffer has room for all rates, and what was written of it is the printout. Assumes
+-- `fair::write_printout` meets its contract: what it lends has room for all rates, and what was written of it is the printout. Assumes
 -- nothing.
 use borrow.Author.Needs.{needs}
 use mathlib.Core.Path.{sym}
@@ -6,9 +6,6 @@ use lib.Seq.{length-take-le}
 use Rattle.definitions.specs.Sizes.{ids}
 use Rattle.fair.proofs.write_printout.Statement.{statement}
 use Rattle.fair.proofs.write_printout.Tie as tie
-
-buffer-requires : tie.Need-buffer-requires
-buffer-requires c κs = search needs
 
 slice-aggregate-print : tie.Need-slice-aggregate-print
 slice-aggregate-print c = search needs
@@ -32,5 +29,5 @@ returns c = rw (c .before .before .before .print .ensures .told (search needs)) 
 pub write-printout-spec : {M : Type 1} → statement M
 write-printout-spec =
     tie.close
-    (tie.spec buffer-requires slice-aggregate-print print-requires array-share-prefix-out slice-aggregate-write-text
+    (tie.spec slice-aggregate-print print-requires array-share-prefix-out slice-aggregate-write-text
     write-text-requires returns)

@@ -2,7 +2,7 @@
 -- nothing.
 use mathlib.Core.Path.{refl, _∙_}
 use native.Mathlib.Omega.{arith}
-use Rattle.grammar.specs.Templates.{limits}
+use Rattle.grammar.specs.Templates.{limitsIn}
 use Rattle.parser.specs.Texts.{plain}
 use Rattle.parser.proofs.Forms.{read-placed, read-within}
 use Rattle.parser.proofs.PairReads.{read-pair}
@@ -17,7 +17,7 @@ slice-aggregate-read-form-2 : tie.Need-slice-aggregate-read-form-2
 slice-aggregate-read-form-2 c = search needs
 
 read-form-requires : tie.Need-read-form-requires
-unfolding plain limits
+unfolding plain limitsIn
 read-form-requires c κs = record { bare = refl; room = record { sized = refl; enough = omega arith } }
 
 array-read-pair-from : tie.Need-array-read-pair-from
@@ -27,13 +27,13 @@ array-read-pair-from-2 : tie.Need-array-read-pair-from-2
 array-read-pair-from-2 c = search needs
 
 pair-from-requires : tie.Need-pair-from-requires
-unfolding limits
+unfolding limitsIn
 pair-from-requires c κs =
     let within = read-within (c .read-form .ensures) in
     record { low = λ e. (within e 0 (omega arith), within e 1 (omega arith)) }
 
 returns : tie.Need-returns
-unfolding limits
+unfolding limitsIn
 returns c =
     let read = c .before .read-form .ensures in
     c .pair-from .ensures

@@ -2,7 +2,7 @@
 use mathlib.Core.Path.{sym, _∙_}
 use borrow.Author.Needs.{needs}
 use borrow.Author.Tests.{ne-eqb}
-use Rattle.grammar.specs.Grammar.{rules, parsed}
+use Rattle.grammar.specs.Grammar.{rules, parsedIn}
 use Rattle.grammar.proofs.AllForms.{forms}
 use Rattle.parser.proofs.Forms.{no-rule, unlike, like, only-like}
 use Rattle.parser.proofs.parse.Statement.{statement}
@@ -30,43 +30,43 @@ parse-tick-requires : tie.Need-parse-tick-requires
 parse-tick-requires c κs = search needs
 
 returns : tie.Need-returns
-unfolding forms parsed like unlike
+unfolding forms parsedIn like unlike
 returns c =
     c .parse-open .ensures
     ∙ sym (only-like _ (sym (c .before .match .keys1) ∙ c .before .before .byte-at .ensures) rules)
 
 returns-2 : tie.Need-returns-2
-unfolding forms parsed like unlike
+unfolding forms parsedIn like unlike
 returns-2 c =
     c .parse-join .ensures
     ∙ sym (only-like _ (sym (c .before .match .keys2) ∙ c .before .before .byte-at .ensures) rules)
 
 returns-3 : tie.Need-returns-3
-unfolding forms parsed like unlike
+unfolding forms parsedIn like unlike
 returns-3 c =
     c .parse-change .ensures
     ∙ sym (only-like _ (sym (c .before .match .keys3) ∙ c .before .before .byte-at .ensures) rules)
 
 returns-4 : tie.Need-returns-4
-unfolding forms parsed like unlike
+unfolding forms parsedIn like unlike
 returns-4 c =
     c .parse-leave-or-load .ensures
     ∙ sym (only-like _ (sym (c .before .match .keys4) ∙ c .before .before .byte-at .ensures) rules)
 
 returns-5 : tie.Need-returns-5
-unfolding forms parsed like unlike
+unfolding forms parsedIn like unlike
 returns-5 c =
     c .parse-arrive .ensures
     ∙ sym (only-like _ (sym (c .before .match .keys5) ∙ c .before .before .byte-at .ensures) rules)
 
 returns-6 : tie.Need-returns-6
-unfolding forms parsed like unlike
+unfolding forms parsedIn like unlike
 returns-6 c =
     c .parse-tick .ensures
     ∙ sym (only-like _ (sym (c .before .match .keys6) ∙ c .before .before .byte-at .ensures) rules)
 
 returns-7 : tie.Need-returns-7
-unfolding forms parsed like unlike
+unfolding forms parsedIn like unlike
 returns-7 c =
     let not = c .match .rest in
     let x = c .before .byte-at .result in

@@ -3,8 +3,8 @@
 use mathlib.Core.Path.{refl, sym, _∙_}
 use mathlib.Core.List.{[]}
 use native.Mathlib.Omega.{arith}
-use Rattle.definitions.specs.Sizes.{numberLimit, handleLimit}
-use Rattle.grammar.specs.Templates.{limits}
+use Rattle.definitions.specs.Sizes.{numberLimit}
+use Rattle.grammar.specs.Templates.{limitsIn}
 use Rattle.grammar.specs.Grammar.{arriveForms}
 use Rattle.parser.specs.Texts.{plain}
 use Rattle.parser.proofs.Forms.{read-placed, read-within, rule-fits, only-refused}
@@ -19,7 +19,7 @@ slice-aggregate-read-form-2 : tie.Need-slice-aggregate-read-form-2
 slice-aggregate-read-form-2 c = search needs
 
 read-form-requires : tie.Need-read-form-requires
-unfolding plain limits
+unfolding plain limitsIn
 read-form-requires c κs = record { bare = refl; room = record { sized = refl; enough = omega arith } }
 
 returns : tie.Need-returns
@@ -29,26 +29,22 @@ returns c = sym (only-refused _ _ (c .before .read-form .ensures) (c .if1 .taken
 array-read-t15 : tie.Need-array-read-t15
 array-read-t15 c = search needs
 
-cast-t16 : tie.Need-cast-t16
-unfolding limits numberLimit handleLimit
-cast-t16 c = omega (arith, read-within (c .before .read-form .ensures) (c .if1 .left) 1 (omega arith))
+array-read-t18 : tie.Need-array-read-t18
+array-read-t18 c = search needs
 
-array-read-t19 : tie.Need-array-read-t19
-array-read-t19 c = search needs
-
-cast-t20 : tie.Need-cast-t20
-unfolding limits numberLimit handleLimit
-cast-t20 c = omega (arith, read-within (c .before .read-form .ensures) (c .if1 .left) 2 (omega arith))
+cast-t19 : tie.Need-cast-t19
+unfolding limitsIn numberLimit
+cast-t19 c = omega (arith, read-within (c .before .read-form .ensures) (c .if1 .left) 2 (omega arith))
 
 array-read-t15-2 : tie.Need-array-read-t15-2
 array-read-t15-2 c = search needs
 
-cast-t20-2 : tie.Need-cast-t20-2
-unfolding limits numberLimit handleLimit
-cast-t20-2 c = omega (arith, read-within (c .before .read-form .ensures) (c .if1 .left) 0 (omega arith))
+cast-t19-2 : tie.Need-cast-t19-2
+unfolding limitsIn numberLimit
+cast-t19-2 c = omega (arith, read-within (c .before .read-form .ensures) (c .if1 .left) 0 (omega arith))
 
 returns-2 : tie.Need-returns-2
-unfolding arriveForms limits
+unfolding arriveForms limitsIn
 returns-2 c =
     let read = c .before .read-form .ensures in
     let e = c .if1 .left in
@@ -64,9 +60,8 @@ parse-arrive-spec =
     read-form-requires
     returns
     array-read-t15
-    cast-t16
-    array-read-t19
-    cast-t20
+    array-read-t18
+    cast-t19
     array-read-t15-2
-    cast-t20-2
+    cast-t19-2
     returns-2)

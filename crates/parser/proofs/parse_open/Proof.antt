@@ -4,7 +4,7 @@ use mathlib.Core.Path.{refl, sym, _∙_}
 use mathlib.Core.List.{[]}
 use native.Mathlib.Omega.{arith}
 use Rattle.definitions.specs.Sizes.{numberLimit}
-use Rattle.grammar.specs.Templates.{limits}
+use Rattle.grammar.specs.Templates.{limitsIn}
 use Rattle.grammar.specs.Grammar.{openForms}
 use Rattle.parser.specs.Texts.{plain}
 use Rattle.parser.proofs.Forms.{read-placed, read-within, rule-fits, only-refused}
@@ -19,7 +19,7 @@ slice-aggregate-read-form-2 : tie.Need-slice-aggregate-read-form-2
 slice-aggregate-read-form-2 c = search needs
 
 read-form-requires : tie.Need-read-form-requires
-unfolding plain limits
+unfolding plain limitsIn
 read-form-requires c κs = record { bare = refl; room = record { sized = refl; enough = omega arith } }
 
 returns : tie.Need-returns
@@ -30,25 +30,25 @@ array-read-t14 : tie.Need-array-read-t14
 array-read-t14 c = search needs
 
 cast-t15 : tie.Need-cast-t15
-unfolding limits numberLimit
+unfolding limitsIn numberLimit
 cast-t15 c = omega (arith, read-within (c .before .read-form .ensures) (c .if1 .left) 0 (omega arith))
 
 array-read-t18 : tie.Need-array-read-t18
 array-read-t18 c = search needs
 
 cast-t19 : tie.Need-cast-t19
-unfolding limits numberLimit
+unfolding limitsIn numberLimit
 cast-t19 c = omega (arith, read-within (c .before .read-form .ensures) (c .if1 .left) 1 (omega arith))
 
 array-read-t22 : tie.Need-array-read-t22
 array-read-t22 c = search needs
 
 cast-t23 : tie.Need-cast-t23
-unfolding limits numberLimit
+unfolding limitsIn numberLimit
 cast-t23 c = omega (arith, read-within (c .before .read-form .ensures) (c .if1 .left) 2 (omega arith))
 
 returns-2 : tie.Need-returns-2
-unfolding openForms limits
+unfolding openForms limitsIn
 returns-2 c =
     let read = c .before .read-form .ensures in
     let e = c .if1 .left in

@@ -4,7 +4,7 @@ use mathlib.Core.List.{[]}
 use borrow.Author.Needs.{needs}
 use borrow.Author.Tests.{not-true, not-false}
 use Rattle.grammar.specs.Bytes.{bytes}
-use Rattle.grammar.specs.Templates.{limits}
+use Rattle.grammar.specs.Templates.{limitsIn}
 use Rattle.grammar.specs.Grammar.{tickForms}
 use Rattle.parser.specs.Texts.{plain}
 use Rattle.parser.proofs.Forms.{no-rule, rule-missed, rule-bare}
@@ -28,7 +28,7 @@ returns-2 c =
     sym (rule-missed _ [] _ (bytes-behind (bytes "(tick)") _ refl begun (c .if2 .taken)) ∙ no-rule _)
 
 returns-3 : tie.Need-returns-3
-unfolding tickForms plain limits
+unfolding tickForms plain limitsIn
 returns-3 c =
     let begun = sym (c .before .before .starts .ensures) ∙ not-false _ (c .before .if1 .left) in
     sym (rule-bare _ [] _ (whole-line (bytes "(tick)") _ refl begun (c .if2 .left)) refl)

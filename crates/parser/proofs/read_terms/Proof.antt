@@ -8,7 +8,8 @@ use borrow.Author.Tests.{ne-eqb}
 use lib.ListN.{drop}
 use Rattle.grammar.specs.declared.Call.{Call}
 use Rattle.definitions.specs.Sizes.{numberLimit, privateKind, indifferentKind}
-use Rattle.grammar.specs.Templates.{limits}
+use Rattle.grammar.specs.Bytes.{bytes}
+use Rattle.grammar.specs.Templates.{limitsIn, gaps}
 use Rattle.grammar.specs.Grammar.{termsForms, parsedBy}
 use Rattle.parser.proofs.Forms.{read-placed, read-within, rule-fits, rule-large, rule-off, only-refused}
 use borrow.Author.Needs.{needs}
@@ -27,25 +28,25 @@ slice-aggregate-read-as : tie.Need-slice-aggregate-read-as
 slice-aggregate-read-as c = search needs
 
 read-as-requires : tie.Need-read-as-requires
-unfolding limits
+unfolding limitsIn
 read-as-requires c κs = record { sized = refl; enough = omega arith }
 
 array-read-t14 : tie.Need-array-read-t14
 array-read-t14 c = search needs
 
 cast-t15 : tie.Need-cast-t15
-unfolding limits numberLimit
+unfolding limitsIn numberLimit
 cast-t15 c = omega (arith, read-within (c .before .read-as .ensures) (c .if1 .taken) 0 (omega arith))
 
 array-read-t18 : tie.Need-array-read-t18
 array-read-t18 c = search needs
 
 cast-t19 : tie.Need-cast-t19
-unfolding limits numberLimit
+unfolding limitsIn numberLimit
 cast-t19 c = omega (arith, read-within (c .before .read-as .ensures) (c .if1 .taken) 1 (omega arith))
 
 returns : tie.Need-returns
-unfolding termsForms limits privateKind
+unfolding termsForms limitsIn privateKind
 returns c =
     let read = c .before .read-as .ensures in
     let e = c .if1 .taken in
@@ -64,7 +65,7 @@ slice-aggregate-read-as-2 : tie.Need-slice-aggregate-read-as-2
 slice-aggregate-read-as-2 c = search needs
 
 read-as-requires-2 : tie.Need-read-as-requires-2
-unfolding limits
+unfolding limitsIn
 read-as-requires-2 c κs = record { sized = c .before .before .before .before .read-as .ensures .sized; enough = omega arith }
 
 no-terms-requires-2 : tie.Need-no-terms-requires-2
@@ -82,32 +83,38 @@ array-read-t25 : tie.Need-array-read-t25
 array-read-t25 c = search needs
 
 cast-t26 : tie.Need-cast-t26
-unfolding limits numberLimit
+unfolding limitsIn numberLimit
 cast-t26 c = omega (arith, read-within (c .before .read-as2 .ensures) (c .if3 .left) 0 (omega arith))
 
 array-read-t29 : tie.Need-array-read-t29
 array-read-t29 c = search needs
 
 cast-t30 : tie.Need-cast-t30
-unfolding limits numberLimit
+unfolding limitsIn numberLimit
 cast-t30 c = omega (arith, read-within (c .before .read-as2 .ensures) (c .if3 .left) 1 (omega arith))
 
 array-read-t33 : tie.Need-array-read-t33
 array-read-t33 c = search needs
 
 cast-t34 : tie.Need-cast-t34
-unfolding limits numberLimit
+unfolding limitsIn numberLimit
 cast-t34 c = omega (arith, read-within (c .before .read-as2 .ensures) (c .if3 .left) 2 (omega arith))
 
+-- how many numbers there are, for a proof that does not compute the limits
+indifferent-gaps : gaps (bytes "# (indifferent # #))") ≡ 3
+unfolding limitsIn
+indifferent-gaps = refl
+
 returns-4 : tie.Need-returns-4
-unfolding termsForms limits indifferentKind
+unfolding termsForms indifferentKind
 returns-4 c =
     let read = c .before in
     let e = c .if3 .left in
     let numbers = read .read-as2 .ensures in
+    let at = read-placed numbers e in
     λ call. no-private call (read .before .before .before)
     ∙ rule-fits _ [] _ numbers e
-    ∙ rw (read-placed numbers e 0 (omega arith), read-placed numbers e 1 (omega arith), read-placed numbers e 2 (omega arith))
+    ∙ rw (at 0 (omega (arith, indifferent-gaps)), at 1 (omega (arith, indifferent-gaps)), at 2 (omega (arith, indifferent-gaps)))
 
 pub read-terms-spec : {M : Type 1} → statement M
 read-terms-spec =

@@ -3,7 +3,7 @@
 use mathlib.Core.Path.{refl, _∙_}
 use native.Mathlib.Omega.{arith}
 use Rattle.definitions.specs.Sizes.{numberLimit}
-use Rattle.grammar.specs.Templates.{limits}
+use Rattle.grammar.specs.Templates.{limitsIn}
 use Rattle.parser.specs.Texts.{plain}
 use Rattle.parser.proofs.Forms.{read-placed, read-within}
 use Rattle.parser.proofs.PairReads.{one-alone, read-pair}
@@ -18,18 +18,18 @@ slice-aggregate-read-form-2 : tie.Need-slice-aggregate-read-form-2
 slice-aggregate-read-form-2 c = search needs
 
 read-form-requires : tie.Need-read-form-requires
-unfolding plain limits
+unfolding plain limitsIn
 read-form-requires c κs = record { bare = refl; room = record { sized = refl; enough = omega arith } }
 
 array-read-pair-from : tie.Need-array-read-pair-from
 array-read-pair-from c = search needs
 
 pair-from-requires : tie.Need-pair-from-requires
-unfolding limits numberLimit
+unfolding limitsIn numberLimit
 pair-from-requires c κs = record { low = λ e. (read-within (c .read-form .ensures) e 0 (omega arith), omega arith) }
 
 returns : tie.Need-returns
-unfolding limits
+unfolding limitsIn
 returns c =
     let call = c .before .read-form in
     c .pair-from .ensures

@@ -7,8 +7,8 @@ use mathlib.Core.List.{List, _++_}
 use lib.ListN.{length, length-append}
 use Rattle.grammar.specs.Bytes.{bytes}
 use Rattle.grammar.specs.Numerals.{decimal}
-use Rattle.grammar.proofs.Decimals.{decimal-length}
 use Rattle.printer.proofs.Appending.{front-room, appended-room, appended-more}
+use Rattle.printer.proofs.FilledLength.{ten-digits}
 use Rattle.printer.proofs.LineRoom.{roomy, unwritten, wrote}
 use Rattle.printer.proofs.print_pair.Statement.{statement}
 use Rattle.printer.proofs.print_pair.Tie as tie
@@ -31,8 +31,8 @@ room c =
     (omega (
       arith,
       start .pre,
-      decimal-length 9 (start .args .first) (omega (arith, start .fits .first)),
-      decimal-length 9 (start .args .second) (omega (arith, start .fits .second)),
+      ten-digits (start .args .first) (omega (arith, start .fits .first)),
+      ten-digits (start .args .second) (omega (arith, start .fits .second)),
       roomy (start .args .out .now) (start .args .at) (c .before .has-room .ensures) (c .if1 .left),
     ))
 

@@ -1,23 +1,15 @@
 -- `printer::print_refused` meets its contract: it writes nothing where a line may not fit, and else the line. Assumes nothing.
 use borrow.Author.Needs.{needs}
 use native.Mathlib.Omega.{arith}
-use Prim.Native.Nat.{ℕ}
-use mathlib.Core.List.{List, [], _∷_}
+use mathlib.Core.List.{[], _∷_}
 use Rattle.definitions.specs.declared.Answer.the-variants.{Refused}
 use Rattle.grammar.specs.Bytes.{bytes}
 use Rattle.grammar.specs.Templates.{filled}
 use Rattle.grammar.specs.Printout.{printed}
-use Rattle.printer.proofs.FilledLength.{Small, filled-room}
+use Rattle.printer.proofs.FilledLength.{ten-digits, filled-room}
 use Rattle.printer.proofs.LineRoom.{roomy, unwritten, wrote}
 use Rattle.printer.proofs.print_refused.Statement.{statement}
 use Rattle.printer.proofs.print_refused.Tie as tie
-
--- the line, and that it has room for a number of 32 bits
-abbrev numbers : tie.Start → List ℕ
-numbers start = start .args .number ∷ []
-
-small : (start : tie.Start) → Small (numbers start)
-small start = omega (arith, start .fits .number)
 
 has-room-requires : tie.Need-has-room-requires
 has-room-requires c κs = search needs
@@ -40,7 +32,9 @@ unfolding filled
 put-between-requires c κs =
     let test = c .before .before .before in
     let start = test .before .before .before in
-    filled-room (bytes "(refused #)\n") (numbers start) (small start) (omega arith) (start .args .at)
+    let number = start .args .number in
+    let short = ten-digits number (omega (arith, start .fits .number)) in
+    filled-room (bytes "(refused #)\n") (number ∷ []) (omega (arith, short)) (start .args .at)
     (roomy (start .args .out .now) (start .args .at) (test .before .has-room .ensures) (test .if1 .left))
 
 same-length : tie.Need-same-length

@@ -60,10 +60,10 @@ handle-room c =
 
 length-room : (c : tie.After-put-number3) →
     let start = c .before .before .before .before .before .before .before .before .before .before .before .before .before
-    .before in
+    .before .before in
     c .put-number3 .result + length (padding-text start) ≤ length (c .put-number3 .last .0)
 length-room c =
-    let call = c .before .before .before .before .before in
+    let call = c .before .before .before .before .before .before in
     appended-room (c .put-number3 .ensures)
     (padding-text (call .before .before .before .before .before .before .before .before .before)) (handle-room call)
 
@@ -87,9 +87,12 @@ put-number-requires-2 c κs =
 slice-aggregate-put-number-3 : tie.Need-slice-aggregate-put-number-3
 slice-aggregate-put-number-3 c = search needs
 
+cast-put-number : tie.Need-cast-put-number
+cast-put-number c = search needs
+
 put-number-requires-3 : tie.Need-put-number-requires-3
 put-number-requires-3 c κs =
-    let call = c .before .before .before .before in
+    let call = c .before .before .before .before .before in
     let start = call .before .before .before .before .before .before .before .before .before in
     front-room (length-text start) (padding-text start) (call .put-number2 .last .0) (call .put-number2 .result)
     (handle-room call)
@@ -109,7 +112,7 @@ same-length c = search needs
 returns : tie.Need-returns
 returns c =
     let lengths = c .before .before .before .before .before .before .before .before in
-    let handles = lengths .before .before .before .before .before in
+    let handles = lengths .before .before .before .before .before .before in
     let ids = handles .before .before .before .before .before in
     appended-as (whole (ids .before .before .before .before))
     (appended-more (ids .put-number .ensures)
@@ -120,5 +123,5 @@ pub put-real-spec : {M : Type 1} → statement M
 put-real-spec =
     tie.close
     (tie.spec slice-aggregate-put-number put-number-requires slice-aggregate-put-number-2 put-number-requires-2
-    slice-aggregate-put-number-3 put-number-requires-3 slice-aggregate-put-between slice-aggregate-put-between-2
+    slice-aggregate-put-number-3 cast-put-number put-number-requires-3 slice-aggregate-put-between slice-aggregate-put-between-2
     put-between-requires same-length returns)
