@@ -163,6 +163,7 @@ script() {
             if (name ~ /^ticks/) return "(tick)"
             if (name == "line feeds") return ""
             if (name == "all seven calls") return mixed(k)
+            if (name == "opens") return "(open 1024 " k % 2 " " k + 1 ")"
             if (name == "joins") return "(join " k % 64 " (indifferent 16 64))"
             if (name == "changes") return "(change " k % 64 " (private " 1 + k % 16 "))"
             if (name == "loads") return "(load " k % 64 " 1)"
@@ -197,7 +198,7 @@ scripts() {
     echo "| 60,000 bytes of | slots µs | plain µs | ratio | slots instructions | plain | ratio | memset by stores: slots | plain | ratio |"
     echo "|---|---:|---:|---:|---:|---:|---:|---:|---:|---:|"
     local name text=$temporary/script plain=$out/plain_slots
-    for name in calls ticks "line feeds" "all seven calls" joins changes loads arrivals "refused arrivals" "ticks of 64 private clients" \
+    for name in calls ticks "line feeds" "all seven calls" opens joins changes loads arrivals "refused arrivals" "ticks of 64 private clients" \
         "ticks with nobody" "lines without a form" "one line" "an empty script"; do
         script "$name" >"$text" || true # head stops reading before the end
         [ "$name" = "an empty script" ] || [ "$(wc -c <"$text")" = 60000 ] || { echo "bench.sh: no script of $name" >&2; exit 1; }

@@ -105,7 +105,7 @@ for fault in 1 2 3 4 5 5b 6 7 7b 9 9b; do
     judge $fault "the count of a greedy client" "$found" "$in_counts" "$(cat "$folder/exact.txt")"
 done
 for fault in 10 10b 10c; do
-    case $fault$handles in 10tests/handles/4294967295 | 10btests/handles/4294967295) continue ;; esac
+    case $fault-$(basename "$handles") in 10-4294967295 | 10b-4294967295) continue ;; esac
     plant $fault main slots
     in_pairs="not seen" in_stretches=caught in_calls="not seen"
     case $fault in 10) in_calls=caught ;; 10c) in_pairs=caught in_stretches="not seen" ;; esac

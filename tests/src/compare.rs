@@ -2,7 +2,7 @@
 //! program and compares every byte of the printouts.
 
 use second::core::{Answer, Call, Core, Outcome, INDIFFERENT};
-use second::script::{parse, Line};
+use second::script::{parse, Line, LARGEST_HANDLE};
 use tests::arguments::Arguments;
 use tests::buckets::Buckets;
 use tests::difference::{expected, report};
@@ -83,7 +83,8 @@ impl Tally {
             complete &= self.outcomes[place] > 0;
         }
         println!("real, with a handle above 4294967295: {}", self.long_handles);
-        self.buckets.print() && complete && self.long_handles > 0
+        complete &= self.long_handles > 0 || LARGEST_HANDLE <= 4294967295;
+        self.buckets.print() && complete
     }
 }
 

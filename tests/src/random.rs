@@ -1,5 +1,7 @@
 //! Numbers from a 64-bit seed (splitmix64), so that every run can be made again.
 
+use second::script::LARGEST_HANDLE;
+
 pub struct Random {
     state: u64,
 }
@@ -32,17 +34,19 @@ impl Random {
         self.next() as u32
     }
 
-    /// A handle: of 64 bits, of 32, with one half 0, or at an end of either width (paper 02, S-6).
+    /// A handle that the edition takes: of 64 bits, of 32, with its lower half 0, below 4, or at an
+    /// end of either width (paper 02, S-6). Which, other bits say than those that it has.
     pub fn handle(&mut self) -> u64 {
         const ENDS: [u64; 5] = [0, 4294967295, 4294967296, u64::MAX - 1, u64::MAX];
         let any = self.next();
-        match any % 8 {
+        let handle = match any.wrapping_mul(0xD6E8_FEB8_6659_FD93) >> 61 {
             0..=2 => any,
             3 | 4 => any >> 32,
             5 => any >> 32 << 32,
             6 => any >> 62,
-            _ => ENDS[(any >> 8) as usize % ENDS.len()],
-        }
+            _ => ENDS[any as usize % ENDS.len()],
+        };
+        if handle > LARGEST_HANDLE { handle % LARGEST_HANDLE } else { handle }
     }
 
     pub fn pick<T: Clone>(&mut self, list: &[T]) -> T {

@@ -8,7 +8,7 @@ use crate::lines::{big_number, line_of, near_miss, odd_byte};
 use crate::random::Random;
 use crate::seeds::high_seed;
 use second::core::{Call, Client, Core, INDIFFERENT, PLACES, PRIVATE};
-use second::script::{parse, Line};
+use second::script::{parse, Line, LARGEST_HANDLE};
 
 pub mod switches;
 
@@ -193,7 +193,7 @@ impl Writer {
 
     fn packet(&mut self, id: u32) -> Call {
         let any = self.random.handle();
-        let handle = self.random.pick(&[0, u64::MAX, any, any, any, any]);
+        let handle = self.random.pick(&[0, LARGEST_HANDLE, any, any, any, any]);
         Call::Arrive { id, handle, length: self.edge_length() }
     }
 }

@@ -1,6 +1,7 @@
--- Limits that rest on the width of a call's numbers (paper 01: "calls take unsigned 32-bit numbers"). The definitions take any
--- number. `Fits` is claimed of every state that a history of such calls reaches. `FitsMet` shows such a history, and `FitsNeeded`
--- that with a seed or a handle one past its limit the same history breaks the claim.
+-- Limits that rest on the width of a call's numbers (paper 01: "calls take unsigned 32-bit numbers"; paper 02, S-6: "Handles go to
+-- 18446744073709551615 in calls"). The definitions take any number. `Fits` is claimed of every state that a history of such calls
+-- reaches. `FitsMet` shows such a history, and `FitsNeeded` that with a seed or a handle one past its limit the same history breaks
+-- the claim.
 use Prim.Native.Nat.{ℕ, suc, _≤_}
 use mathlib.Core.Path.{_≡_}
 use mathlib.Core.List.{List, [], _∷_}
@@ -25,7 +26,7 @@ abbrev pub HistoryFits : History → Type 0
 HistoryFits start = Unit {0}
 HistoryFits (h then c) = HistoryFits h × EventFits c
 
--- "A packet is a handle (any 32-bit number) and a length in bytes."
+-- the handles that wait
 abbrev pub HandlesFit : List Packet → Type 0
 HandlesFit [] = Unit {0}
 HandlesFit (p ∷ ps) = (p .handle ≤ handleLimit) × HandlesFit ps

@@ -82,8 +82,8 @@ fn begin(
     terms: &mut [u32; TERMS],
     stocks: &mut [u32; STOCKS],
     handles: &mut [u64; STORE],
-    lengths: &mut [u32; STORE],
-    links: &mut [u16; LINKS],
+    lengths: &mut [u16; STORE],
+    links: &mut [u32; LINKS],
 ) -> Control
     ensures { λ r. ⌜ Valid r (tables (now (terms .exit)) (now (stocks .exit)) (now (handles .exit)) (now (lengths .exit)) (now (links .exit))) ⌝ }
 {
@@ -108,8 +108,8 @@ fn leave_ids(
     terms: &mut [u32; TERMS],
     stocks: &mut [u32; STOCKS],
     handles: &[u64; STORE],
-    lengths: &[u32; STORE],
-    links: &mut [u16; LINKS],
+    lengths: &[u16; STORE],
+    links: &mut [u32; LINKS],
     end: u32,
     before: u64,
 ) -> Tally
@@ -136,8 +136,8 @@ fn change_ids(
     terms: &mut [u32; TERMS],
     stocks: &mut [u32; STOCKS],
     handles: &[u64; STORE],
-    lengths: &[u32; STORE],
-    links: &mut [u16; LINKS],
+    lengths: &[u16; STORE],
+    links: &mut [u32; LINKS],
     end: u32,
     plan: Plan,
     before: u64,
@@ -175,8 +175,8 @@ fn empty_ids(
     terms: &mut [u32; TERMS],
     stocks: &mut [u32; STOCKS],
     handles: &[u64; STORE],
-    lengths: &[u32; STORE],
-    links: &mut [u16; LINKS],
+    lengths: &[u16; STORE],
+    links: &mut [u32; LINKS],
     end: u32,
     plan: Plan,
     sum: u64,
@@ -207,8 +207,8 @@ fn empty_rounds(
     terms: &mut [u32; TERMS],
     stocks: &mut [u32; STOCKS],
     handles: &[u64; STORE],
-    lengths: &[u32; STORE],
-    links: &mut [u16; LINKS],
+    lengths: &[u16; STORE],
+    links: &mut [u32; LINKS],
     end: u32,
     plan: Plan,
     rounds: u32,
@@ -247,8 +247,8 @@ fn set_up(
     terms: &mut [u32; TERMS],
     stocks: &mut [u32; STOCKS],
     handles: &mut [u64; STORE],
-    lengths: &mut [u32; STORE],
-    links: &mut [u16; LINKS],
+    lengths: &mut [u16; STORE],
+    links: &mut [u32; LINKS],
     plan: Plan,
 ) -> Tally
     requires { ⌜ 1 ≤ plan .clients ⌝ }
@@ -276,8 +276,8 @@ fn emptying(
     terms: &mut [u32; TERMS],
     stocks: &mut [u32; STOCKS],
     handles: &mut [u64; STORE],
-    lengths: &mut [u32; STORE],
-    links: &mut [u16; LINKS],
+    lengths: &mut [u16; STORE],
+    links: &mut [u32; LINKS],
     plan: Plan,
     end: u32,
     rounds: u32,
@@ -346,8 +346,8 @@ fn open_rounds(
     terms: &mut [u32; TERMS],
     stocks: &mut [u32; STOCKS],
     handles: &mut [u64; STORE],
-    lengths: &mut [u32; STORE],
-    links: &mut [u16; LINKS],
+    lengths: &mut [u16; STORE],
+    links: &mut [u32; LINKS],
     rounds: u32,
 ) -> Tally
     requires { ⌜ Valid control (tables (now terms) (now stocks) (now handles) (now lengths) (now links)) ⌝ }
@@ -382,8 +382,8 @@ fn opens(
     terms: &mut [u32; TERMS],
     stocks: &mut [u32; STOCKS],
     handles: &mut [u64; STORE],
-    lengths: &mut [u32; STORE],
-    links: &mut [u16; LINKS],
+    lengths: &mut [u16; STORE],
+    links: &mut [u32; LINKS],
     rounds: u32,
 ) -> u64 {
     let last = Stage {

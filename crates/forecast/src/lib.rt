@@ -27,8 +27,8 @@ fn carry_out(
     terms: &mut [u32; TERMS],
     stocks: &mut [u32; STOCKS],
     handles: &mut [u64; STORE],
-    lengths: &mut [u32; STORE],
-    links: &mut [u16; LINKS],
+    lengths: &mut [u16; STORE],
+    links: &mut [u32; LINKS],
 ) -> Control
     requires { ⌜ Start (now text) (now out) first × (lineRoom ≤ length (now out)) ⌝ }
     ensures { λ r. ⌜ CarriedOut (now (text .entry)) r
@@ -83,8 +83,8 @@ pub fn forecast(
     terms: &mut [u32; TERMS],
     stocks: &mut [u32; STOCKS],
     handles: &mut [u64; STORE],
-    lengths: &mut [u32; STORE],
-    links: &mut [u16; LINKS],
+    lengths: &mut [u16; STORE],
+    links: &mut [u32; LINKS],
 ) -> usize
     ensures { λ r. ⌜ Told (now (text .entry)) ticks (now (out .entry))
         (tables (now (terms .entry)) (now (stocks .entry)) (now (handles .entry)) (now (lengths .entry)) (now (links .entry)))

@@ -17,7 +17,7 @@ use Rattle.grammar.specs.Templates.{limitsIn, numbersFit, filled, matche
 use Rattle.grammar.specs.Grammar.{sizedIn, parsedByIn, parsedIn}
 use Rattle.grammar.proofs.AllForms.{forms}
 use Rattle.grammar.specs.Printout.{printed, answered, printedFromIn, coreFromIn, printoutIn}
-use Rattle.grammar.specs.Editions.{longer, longerFrom}
+use Rattle.grammar.specs.HandleEditions.{longer, longerFrom}
 use Rattle.grammar.specs.Lines.{lines, heldFrom, heard, toldFrom, told}
 use Rattle.grammar.specs.FairSheet.{demandRows, shaped, rowsFit, rateLine, rateLines, ratesPrinted}
 use Rattle.grammar.specs.FairSheet.{sheetFits, sheetPrinted, fairPrintout}
@@ -46,7 +46,7 @@ bad-printout = refl
 
 pub handle-printouts : HandlePrintouts
 unfolding printing longer longerFrom
-handle-printouts = record { newer = refl; older = refl; handlesLonger = refl; shortNotLonger = refl }
+handle-printouts = record { newer = refl; older = refl; longerHandles = refl; shortHandles = refl }
 
 pub number-printout : NumberPrintout
 unfolding NumberPrintout printing

@@ -4,7 +4,7 @@ pub mod Decimals
 pub mod ReadBack
 pub mod RoundTrip
 pub mod Lines
-pub mod Editions
+pub mod HandleEditions
 pub mod LineSplits
 pub mod Sheets
 pub mod Examples

@@ -6,11 +6,10 @@ use mathlib.Core.Path.{_≡_}
 use mathlib.Core.Bool.{true, false, _&&_}
 use mathlib.Core.List.{List, [], _∷_, _++_}
 use lib.ListN.{replicate}
-use Rattle.definitions.specs.Sizes.{numberLimit}
 use Rattle.definitions.specs.Sameness.{indifferentAt, names, departure}
 use Rattle.grammar.specs.Bytes.{bytes, lineFeed, textLimit}
 use Rattle.grammar.specs.Printout.{printoutIn, printout}
-use Rattle.grammar.specs.Editions.{longerFrom}
+use Rattle.grammar.specs.HandleEditions.{longerFrom}
 use Rattle.grammar.specs.Lines.{lines}
 use Rattle.grammar.specs.FairSheet.{fairPrintout}
 use Rattle.grammar.specs.Sheet.{sheet, keptOf, printedOf}
@@ -39,31 +38,43 @@ handlesText =
 abbrev pub shortText : List ℕ
 shortText = bytes "(open 1024 0 1)\n(join 2 (private 300))\n(arrive 2 (packet 4294967295 64))\n(tick)\n"
 
--- The two editions that S-6 speaks of: handles went up to what every number of a call still goes up to.
+-- The two editions that S-6 speaks of.
 pub record HandlePrintouts : Type 0 where
-  pub newer : printout handlesText
+  pub newer : printoutIn 18446744073709551615 handlesText
       ≡ bytes "(ok)\n(ok)\n(ok)\n(ok)\n(ok)\n(refused 17)\n(refused 17)\n(slot (real 2 4294967295 64 1454))\n"
       ++ bytes "(slot (real 2 4294967296 64 1454))\n(slot (real 2 18446744073709551615 1518 0))\n(slot (idle 2))\n"
-  pub older : printoutIn numberLimit handlesText
+  pub older : printoutIn 4294967295 handlesText
       ≡ bytes "(ok)\n(ok)\n(ok)\n(refused 17)\n(refused 17)\n(refused 17)\n(refused 17)\n(slot (real 2 4294967295 64 1454))\n"
       ++ bytes "(slot (idle 2))\n(slot (idle 2))\n(slot (idle 2))\n"
-  pub handlesLonger : longerFrom numberLimit [] handlesText ≡ true
-  pub shortNotLonger : longerFrom numberLimit [] shortText ≡ false
+  pub longerHandles : longerFrom 4294967295 [] handlesText ≡ true
+  pub shortHandles : longerFrom 4294967295 [] shortText ≡ false
 
--- any other number at both sides of 32 bits, numbers of more digits than 64 bits have, and shape before size
+-- every other number of a call at both sides of 32 bits, numbers of more digits than 64 bits have, and shape before size
 unfoldable pub NumberPrintout : Type 0
 NumberPrintout =
     printout
-    (bytes "(open 4294967295 4294967295 4294967295)\n(open 4294967296 0 1)\n(open 1024 4294967296 1)\n(open 1024 0 4294967296)\n"
-    ++ bytes "(open 1024 0 4294967295)\n(join 4294967296 (private 1))\n(join 4294967295 (private 1))\n(join 2 (private 4294967296))\n"
-    ++ bytes "(join 2 (indifferent 1 4294967296))\n(change 2 (private 18446744073709551616))\n(leave 4294967296)\n(load 2 4294967296)\n"
-    ++ bytes "(load 4294967301 1)\n(arrive 4294967296 (packet 1 64))\n(arrive 2 (packet 1 4294967296))\n(arrive 2 (packet 1 4294967295))\n"
-    ++ bytes "(arrive 2 (packet 18446744073709551615 18446744073709551615))\n(arrive 2 (packet 99999999999999999999 64))\n"
-    ++ bytes "(arrive 2 (packet 340282366920938463463374607431768211461 64))\n(arrive 2 (packet 18446744073709551616 064))\n"
-    ++ bytes "(arrive 2 (packet 018446744073709551615 64))\n(arrive 2 (packet 18446744073709551616 64)\n")
-    ≡ bytes "(refused 1)\n(refused 17)\n(refused 17)\n(refused 17)\n(ok)\n(refused 17)\n(refused 4)\n(refused 17)\n"
-    ++ bytes "(refused 17)\n(refused 17)\n(refused 17)\n(refused 17)\n(refused 17)\n(refused 17)\n(refused 17)\n(refused 5)\n"
-    ++ bytes "(refused 17)\n(refused 17)\n(refused 17)\n(refused 16)\n(refused 16)\n(refused 16)\n"
+    (bytes "(open 4294967295 0 1)\n(open 4294967296 0 1)\n(open 1024 4294967295 1)\n(open 1024 4294967296 1)\n"
+    ++ bytes "(open 1024 0 4294967296)\n(open 1024 0 4294967295)\n(join 4294967295 (private 1))\n"
+    ++ bytes "(join 4294967296 (private 1))\n(join 2 (private 4294967295))\n(join 2 (private 4294967296))\n"
+    ++ bytes "(join 2 (indifferent 4294967295 1))\n(join 2 (indifferent 4294967296 1))\n"
+    ++ bytes "(join 2 (indifferent 1 4294967295))\n(join 2 (indifferent 1 4294967296))\n(join 2 (private 1))\n"
+    ++ bytes "(change 4294967295 (private 1))\n(change 4294967296 (private 1))\n(change 2 (private 4294967295))\n"
+    ++ bytes "(change 2 (private 4294967296))\n(change 2 (indifferent 4294967295 1))\n"
+    ++ bytes "(change 2 (indifferent 4294967296 1))\n(change 2 (indifferent 1 4294967295))\n"
+    ++ bytes "(change 2 (indifferent 1 4294967296))\n(leave 4294967295)\n(leave 4294967296)\n(load 4294967295 1)\n"
+    ++ bytes "(load 4294967296 1)\n(load 2 4294967295)\n(load 2 4294967296)\n(arrive 4294967295 (packet 1 64))\n"
+    ++ bytes "(arrive 4294967296 (packet 1 64))\n(arrive 2 (packet 1 4294967295))\n(arrive 2 (packet 1 4294967296))\n"
+    ++ bytes "(load 4294967298 1)\n(arrive 2 (packet 18446744073709551615 18446744073709551615))\n"
+    ++ bytes "(arrive 2 (packet 99999999999999999999 64))\n"
+    ++ bytes "(arrive 2 (packet 340282366920938463463374607431768211461 64))\n"
+    ++ bytes "(arrive 2 (packet 18446744073709551616 064))\n(arrive 2 (packet 018446744073709551615 64))\n"
+    ++ bytes "(arrive 2 (packet 18446744073709551616 64)\n")
+    ≡ bytes "(refused 1)\n(refused 17)\n(refused 2)\n(refused 17)\n(refused 17)\n(ok)\n(refused 4)\n(refused 17)\n"
+    ++ bytes "(refused 8)\n(refused 17)\n(refused 8)\n(refused 17)\n(refused 9)\n(refused 17)\n(ok)\n(refused 4)\n"
+    ++ bytes "(refused 17)\n(refused 8)\n(refused 17)\n(refused 8)\n(refused 17)\n(refused 9)\n(refused 17)\n(refused 4)\n"
+    ++ bytes "(refused 17)\n(refused 4)\n(refused 17)\n(refused 12)\n(refused 17)\n(refused 4)\n(refused 17)\n"
+    ++ bytes "(refused 13)\n(refused 17)\n(refused 17)\n(refused 17)\n(refused 17)\n(refused 17)\n(refused 16)\n"
+    ++ bytes "(refused 16)\n(refused 16)\n"
 
 -- texts of demands: their rates, no demands, and each number, shape before size and size before 22
 pub record FairPrintouts : Type 0 where

@@ -6,7 +6,7 @@ pub mod Calls
 pub mod Grammar
 pub mod RoundTrip
 pub mod Printout
-pub mod Editions
+pub mod HandleEditions
 pub mod Forecast
 pub mod Lines
 pub mod FairSheet

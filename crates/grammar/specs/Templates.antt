@@ -13,7 +13,7 @@ use Rattle.grammar.specs.Numerals.{leading, behind, isNumeral, valueFrom
 abbrev pub isGap : ℕ → Bool
 isGap byte = eqb byte 35 || eqb byte 64
 
--- The largest number that may stand in a gap. A handle has a limit of its own, in which editions differ (specs/Editions).
+-- The largest number that may stand in a gap. A handle has a limit of its own, in which editions differ (specs/HandleEditions).
 abbrev pub limitIn : ℕ → ℕ → ℕ
 limitIn handles byte = cond (eqb byte 35) numberLimit (cond (eqb byte 64) handles 0)
 

@@ -243,8 +243,8 @@ fn call_once(
     terms: &mut [u32; TERMS],
     stocks: &mut [u32; STOCKS],
     handles: &mut [u64; STORE],
-    lengths: &mut [u32; STORE],
-    links: &mut [u16; LINKS],
+    lengths: &mut [u16; STORE],
+    links: &mut [u32; LINKS],
 ) -> GreedyProgress
     requires { ⌜ Valid (at .progress .control) (tables (now terms) (now stocks) (now handles) (now lengths) (now links)) ⌝ }
     ensures { λ r. ⌜ Goes 1 at
@@ -281,8 +281,8 @@ fn calls(
     terms: &mut [u32; TERMS],
     stocks: &mut [u32; STOCKS],
     handles: &mut [u64; STORE],
-    lengths: &mut [u32; STORE],
-    links: &mut [u16; LINKS],
+    lengths: &mut [u16; STORE],
+    links: &mut [u32; LINKS],
     count: u32,
 ) -> GreedyProgress
     requires { ⌜ Valid (progress .progress .control) (tables (now terms) (now stocks) (now handles) (now lengths) (now links)) ⌝ }
@@ -324,8 +324,8 @@ fn blocks(
     terms: &mut [u32; TERMS],
     stocks: &mut [u32; STOCKS],
     handles: &mut [u64; STORE],
-    lengths: &mut [u32; STORE],
-    links: &mut [u16; LINKS],
+    lengths: &mut [u16; STORE],
+    links: &mut [u32; LINKS],
 ) {
     let mut at = begin(seed);
     let mut done: u32 = 0;
@@ -349,8 +349,8 @@ fn run(seed: u32, count: u32) {
     let mut terms: [u32; TERMS] = [0; TERMS];
     let mut stocks: [u32; STOCKS] = [0; STOCKS];
     let mut handles: [u64; STORE] = [0; STORE];
-    let mut lengths: [u32; STORE] = [0; STORE];
-    let mut links: [u16; LINKS] = [0; LINKS];
+    let mut lengths: [u16; STORE] = [0; STORE];
+    let mut links: [u32; LINKS] = [0; LINKS];
     blocks(
         seed,
         count,

@@ -76,8 +76,8 @@ pub fn open(
     terms: &mut [u32; TERMS],
     stocks: &mut [u32; STOCKS],
     handles: &mut [u64; STORE],
-    lengths: &mut [u32; STORE],
-    links: &mut [u16; LINKS],
+    lengths: &mut [u16; STORE],
+    links: &mut [u32; LINKS],
     threshold: u32,
     discipline: u32,
     seed: u32,
@@ -95,6 +95,6 @@ pub fn open(
     *stocks = [0; STOCKS];
     *handles = [0; STORE];
     *lengths = [0; STORE];
-    *links = [END as u16; LINKS];
+    *links = [END; LINKS];
     tables::accepted(control_of(true, threshold, discipline, seed))
 }

@@ -4,8 +4,6 @@ use Prim.Native.Nat.{ℕ, zero, suc, _%_, _≤_, _<_}
 use native.Mathlib.Omega.{arith}
 use native.Mathlib.Nat.{mod-eq-of-lt}
 use mathlib.Core.List.{List, [], _∷_, _++_}
-use mir.Syntax.{w32}
-use mir.Val.{Fits}
 use lib.ListN.{getD, replicate, length-replicate, getD-replicate}
 use Rattle.definitions.specs.Sizes.{ids, places}
 use Rattle.order.specs.Order.{sentinel, linkCount, nextOf, prevOf, Sound, Absent, Ordered, joined}
@@ -44,11 +42,6 @@ module _ (links : List ℕ) (sound : Sound links) where
   pub prev-node : (a : ℕ) → prevOf links a ≤ sentinel
   unfolding prevOf
   prev-node a = sound .nodes _
-
-  -- a link has 16 bits in the table, and 32 where it is a number of the code
-  pub link-fits : (i : ℕ) → Fits w32 (getD links i 0)
-  unfolding sentinel ids places
-  link-fits i = record { fits = omega (arith, sound .nodes i) }
 
   pub pushed-sound : (place : ℕ) → Sound (pushed links place)
   pushed-sound place =

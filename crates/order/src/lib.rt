@@ -20,45 +20,45 @@ const FIRST: usize = END as usize;
 const LAST: usize = NODES + FIRST;
 
 // Makes b follow a.
-fn join(links: &mut [u16; LINKS], a: u32, b: u32)
+fn join(links: &mut [u32; LINKS], a: u32, b: u32)
     requires { ⌜ (a ≤ sentinel) × (b ≤ sentinel) ⌝ }
     ensures { λ r. ⌜ now (links .exit) ≡ joined (now (links .entry)) a b ⌝ }
 {
-    links[a as usize] = b as u16;
-    links[NODES + b as usize] = a as u16;
+    links[a as usize] = b;
+    links[NODES + b as usize] = a;
 }
 
 // A new place is the last one. A number past the last place is taken modulo END.
-pub fn push(links: &mut [u16; LINKS], place: u32)
+pub fn push(links: &mut [u32; LINKS], place: u32)
     requires { ⌜ Sound (now links) ⌝ }
     ensures { λ r. ⌜ Sound (now (links .exit)) ⌝ }
     ensures { λ r. ⌜ ((order : List ℕ) → Ordered (now (links .entry)) order → Absent place order → place < sentinel
         → Ordered (now (links .exit)) (order ++ (place ∷ []))) ⌝ }
 {
     let new = place % END;
-    let last = links[LAST] as u32;
+    let last = links[LAST];
     join(links, last, new);
     join(links, new, END);
 }
 
 // Takes a place out, wherever it stands.
-pub fn unlink(links: &mut [u16; LINKS], place: u32)
+pub fn unlink(links: &mut [u32; LINKS], place: u32)
     requires { ⌜ Sound (now links) ⌝ }
     ensures { λ r. ⌜ Sound (now (links .exit)) ⌝ }
     ensures { λ r. ⌜ ((before behind : List ℕ) → Ordered (now (links .entry)) (before ++ place ∷ behind)
         → Ordered (now (links .exit)) (before ++ behind)) ⌝ }
 {
     let at = (place % END) as usize;
-    let prev = links[NODES + at] as u32;
-    let next = links[at] as u32;
+    let prev = links[NODES + at];
+    let next = links[at];
     join(links, prev, next);
 }
 
 // The place that was accepted earliest, and END where none waits.
-pub fn front(links: &[u16; LINKS]) -> u32
+pub fn front(links: &[u32; LINKS]) -> u32
     requires { ⌜ Sound (now links) ⌝ }
     ensures { λ r. ⌜ r ≤ sentinel ⌝ }
     ensures { λ r. ⌜ ((order : List ℕ) → Ordered (now (links .entry)) order → r ≡ frontOf order) ⌝ }
 {
-    links[FIRST] as u32
+    links[FIRST]
 }

@@ -12,7 +12,7 @@ use lib.ListN.{length, take, drop}
 use lib.Seq.{getD-take}
 use Rattle.definitions.proofs.Laws.Tests.{and-both}
 use Rattle.grammar.specs.declared.Line.the-variants.{Form, Refused}
-use Rattle.grammar.specs.Templates.{isGap, limits, limitsIn, gaps, numbersFit, matched}
+use Rattle.grammar.specs.Templates.{isGap, limits, gaps, numbersFit, matched}
 use Rattle.grammar.specs.Grammar.{Rule, nth, sizedIn, orElse, parsedBy, parsedByIn}
 use Rattle.parser.specs.Numbers.{byteOf}
 use Rattle.parser.specs.Readings.{verdict, Reads}

@@ -88,11 +88,11 @@ module _ (stocks : List ℕ) (number : ℕ) (table : List ℕ) where
     unfolding overwrittenUnused
     overwrittenUnused-kept = overwrittenBelow-kept sentinel
 
-module _ (number : ℕ) (t : Tables) where
-  place-kept : (p : ℕ) → waitsAt (t .stocks) p ≡ true → SamePlace t (overwrittenTables number t) p
+module _ (handle length : ℕ) (t : Tables) where
+  place-kept : (p : ℕ) → waitsAt (t .stocks) p ≡ true → SamePlace t (overwrittenTables handle length t) p
   place-kept p waits =
-      rewritten-place t _ _ p (overwrittenUnused-kept (t .stocks) number (t .handles) p waits)
-      (overwrittenUnused-kept (t .stocks) number (t .lengths) p waits)
+      rewritten-place t _ _ p (overwrittenUnused-kept (t .stocks) handle (t .handles) p waits)
+      (overwrittenUnused-kept (t .stocks) length (t .lengths) p waits)
 
   module _ (c : Control) (sound : SoundCore c t) where
     places-wait : (id : ℕ) → id < ids → All (λ p. waitsAt (t .stocks) p ≡ true) (waitingPlaces t id)
@@ -101,38 +101,38 @@ module _ (number : ℕ) (t : Tables) where
         let none : headAt (t .stocks) id + 0 ≡ headAt (t .stocks) id = omega arith in
         rw none at (ring-waits (t .stocks) id 0 (countAt (t .stocks) id) (omega arith) (count-high c t sound id below))
 
-    overwrittenUnused-laid : Laid (overwrittenTables number t)
+    overwrittenUnused-laid : Laid (overwrittenTables handle length t)
     overwrittenUnused-laid =
-        rewritten-laid t _ _ (sound .shape) (overwrittenUnused-length (t .stocks) number (t .handles))
-        (overwrittenUnused-length (t .stocks) number (t .lengths))
+        rewritten-laid t _ _ (sound .shape) (overwrittenUnused-length (t .stocks) handle (t .handles))
+        (overwrittenUnused-length (t .stocks) length (t .lengths))
 
   module _ (c : Control) (valid : Valid c t) where
-    pub overwrittenUnused-differ : DifferUnused c t (overwrittenTables number t)
+    pub overwrittenUnused-differ : DifferUnused c t (overwrittenTables handle length t)
     overwrittenUnused-differ e =
         rewritten-waiting t _ _
         (λ id below.
-        all-map (λ p. waitsAt (t .stocks) p ≡ true) (SamePlace t (overwrittenTables number t)) place-kept (waitingPlaces t id)
+        all-map (λ p. waitsAt (t .stocks) p ≡ true) (SamePlace t (overwrittenTables handle length t)) place-kept (waitingPlaces t id)
         (places-wait c (valid e) id below))
 
-    overwrittenUnused-core : coreOf c (overwrittenTables number t) ≡ coreOf c t
-    overwrittenUnused-core = unused-unseen .indistinct c t (overwrittenTables number t) valid overwrittenUnused-differ .core
+    overwrittenUnused-core : coreOf c (overwrittenTables handle length t) ≡ coreOf c t
+    overwrittenUnused-core = unused-unseen .indistinct c t (overwrittenTables handle length t) valid overwrittenUnused-differ .core
 
-    overwrittenUnused-valid : Valid c (overwrittenTables number t)
+    overwrittenUnused-valid : Valid c (overwrittenTables handle length t)
     overwrittenUnused-valid =
-        unused-unseen .valid c t (overwrittenTables number t) valid overwrittenUnused-differ
+        unused-unseen .valid c t (overwrittenTables handle length t) valid overwrittenUnused-differ
         (λ e. overwrittenUnused-laid c (valid e))
 
 -- calls that were made, with the tables overwritten behind them
-module _ {p q : Progress} {t u : Tables} {calls : ℕ} (number : ℕ) (g : Goes calls p t q u) where
-  goes-rewritten : Goes calls p t q (overwrittenTables number u)
+module _ {p q : Progress} {t u : Tables} {calls : ℕ} (handle length : ℕ) (g : Goes calls p t q u) where
+  goes-rewritten : Goes calls p t q (overwrittenTables handle length u)
   goes-rewritten = record {
     run = ap (λ (x : Core). record { core = x; value = q .maker .generator .value; quiet = q .maker .quiet; check = q .check })
-        (overwrittenUnused-core number u (q .control) (g .valid)) ∙ g .run;
-    valid = overwrittenUnused-valid number u (q .control) (g .valid);
+        (overwrittenUnused-core handle length u (q .control) (g .valid)) ∙ g .run;
+    valid = overwrittenUnused-valid handle length u (q .control) (g .valid);
   }
 
   pub goes-overwritten : {handles lengths : List ℕ}
-      → handles ≡ overwrittenUnused (u .stocks) number (u .handles)
-      → lengths ≡ overwrittenUnused (u .stocks) number (u .lengths)
+      → handles ≡ overwrittenUnused (u .stocks) handle (u .handles)
+      → lengths ≡ overwrittenUnused (u .stocks) length (u .lengths)
       → Goes calls p t q (tables (u .terms) (u .stocks) handles lengths (u .links))
   goes-overwritten e f = rw (e, f) goes-rewritten

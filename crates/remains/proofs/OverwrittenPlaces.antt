@@ -86,15 +86,15 @@ module _ (stocks : List ℕ) (number : ℕ) (table : List ℕ) (place : ℕ) whe
     unfolding overwrittenUnused
     overwrittenUnused-written below = overwrittenBelow-written sentinel below
 
-module _ (t : Tables) (number place : ℕ) (sizes : Sized t) (below : place < sentinel) (unused : Unused t place) where
-  place-written : packetAt (overwrittenTables number t) place ≡ record { handle = number; length = number }
+module _ (t : Tables) (handle length place : ℕ) (sizes : Sized t) (below : place < sentinel) (unused : Unused t place) where
+  place-written : packetAt (overwrittenTables handle length t) place ≡ record { handle = handle; length = length }
   unfolding packetAt sentinel ids places
   place-written =
       let free : waitsAt (t .stocks) place ≡ false = unused-free t place below unused in
       λ i. record {
-        handle = overwrittenUnused-written (t .stocks) number (t .handles) place free (omega (arith, sizes .handles)) below i;
-        length = overwrittenUnused-written (t .stocks) number (t .lengths) place free (omega (arith, sizes .lengths)) below i;
+        handle = overwrittenUnused-written (t .stocks) handle (t .handles) place free (omega (arith, sizes .handles)) below i;
+        length = overwrittenUnused-written (t .stocks) length (t .lengths) place free (omega (arith, sizes .lengths)) below i;
       }
 
 pub unused-overwritten : UnusedOverwritten
-unused-overwritten = record { written = place-written; differ = λ c t number. overwrittenUnused-differ number t c }
+unused-overwritten = record { written = place-written; differ = λ c t handle length. overwrittenUnused-differ handle length t c }

@@ -35,13 +35,14 @@ overwrittenBelow (suc n) stocks number table = overwrittenAt stocks number n (ov
 unfoldable pub overwrittenUnused : List ℕ → ℕ → List ℕ → List ℕ
 overwrittenUnused stocks number table = overwrittenBelow sentinel stocks number table
 
-abbrev pub overwrittenTables : ℕ → Tables → Tables
-overwrittenTables number t =
-    tables (t .terms) (t .stocks) (overwrittenUnused (t .stocks) number (t .handles))
-    (overwrittenUnused (t .stocks) number (t .lengths)) (t .links)
+-- one number as handle, and one as length
+abbrev pub overwrittenTables : ℕ → ℕ → Tables → Tables
+overwrittenTables handle length t =
+    tables (t .terms) (t .stocks) (overwrittenUnused (t .stocks) handle (t .handles))
+    (overwrittenUnused (t .stocks) length (t .lengths)) (t .links)
 
 -- every place where no packet waits is overwritten, and the tables differ there alone
 pub record UnusedOverwritten : Type 0 where
-  pub written : (t : Tables) (number place : ℕ) → Sized t → place < sentinel → Unused t place
-      → packetAt (overwrittenTables number t) place ≡ record { handle = number; length = number }
-  pub differ : (c : Control) (t : Tables) (number : ℕ) → Valid c t → DifferUnused c t (overwrittenTables number t)
+  pub written : (t : Tables) (handle length place : ℕ) → Sized t → place < sentinel → Unused t place
+      → packetAt (overwrittenTables handle length t) place ≡ record { handle = handle; length = length }
+  pub differ : (c : Control) (t : Tables) (handle length : ℕ) → Valid c t → DifferUnused c t (overwrittenTables handle length t)

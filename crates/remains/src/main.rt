@@ -14,7 +14,7 @@ use tables::STORE;
 use tables::TERMS;
 use tally::BLOCK;
 ghost use mathlib.Core.Path.{_≡_};
-ghost use Prim.Native.Nat.{_*_, _<_};
+ghost use Prim.Native.Nat.{_*_, _%_, _<_};
 ghost use Rattle.order.specs.Order.{sentinel};
 ghost use Rattle.tables.specs.Tables.{tables};
 ghost use Rattle.tables.specs.Invariant.{Valid};
@@ -43,39 +43,48 @@ fn waits_at(stocks: &[u32; STOCKS], place: u32) -> bool
     behind < count
 }
 
+// A number as a length of the tables can hold it.
+fn lower_half(number: u32) -> u16
+    ensures { λ r. ⌜ r ≡ number % 65536 ⌝ }
+{
+    (number % 65536) as u16
+}
+
 // Overwrites one place, unless a packet waits there.
 fn overwrite_at(
     stocks: &[u32; STOCKS],
     handles: &mut [u64; STORE],
-    lengths: &mut [u32; STORE],
+    lengths: &mut [u16; STORE],
     place: u32,
-    number: u32,
+    handle: u64,
+    length: u16,
 )
     requires { ⌜ place < sentinel ⌝ }
-    ensures { λ r. ⌜ now (handles .exit) ≡ overwrittenAt (now (stocks .entry)) number place (now (handles .entry)) ⌝ }
-    ensures { λ r. ⌜ now (lengths .exit) ≡ overwrittenAt (now (stocks .entry)) number place (now (lengths .entry)) ⌝ }
+    ensures { λ r. ⌜ now (handles .exit) ≡ overwrittenAt (now (stocks .entry)) handle place (now (handles .entry)) ⌝ }
+    ensures { λ r. ⌜ now (lengths .exit) ≡ overwrittenAt (now (stocks .entry)) length place (now (lengths .entry)) ⌝ }
 {
     if waits_at(stocks, place) {
         return;
     }
     let at = place as usize;
-    handles[at] = number as u64;
-    lengths[at] = number;
+    handles[at] = handle;
+    lengths[at] = length;
 }
 
 // Overwrites every place where no packet waits.
 fn overwrite_unused(
     stocks: &[u32; STOCKS],
     handles: &mut [u64; STORE],
-    lengths: &mut [u32; STORE],
-    number: u32,
+    lengths: &mut [u16; STORE],
+    handle: u64,
+    length: u16,
 )
-    ensures { λ r. ⌜ now (handles .exit) ≡ overwrittenUnused (now (stocks .entry)) number (now (handles .entry)) ⌝ }
-    ensures { λ r. ⌜ now (lengths .exit) ≡ overwrittenUnused (now (stocks .entry)) number (now (lengths .entry)) ⌝ }
+    ensures { λ r. ⌜ now (handles .exit) ≡ overwrittenUnused (now (stocks .entry)) handle (now (handles .entry)) ⌝ }
+    ensures { λ r. ⌜ now (lengths .exit) ≡ overwrittenUnused (now (stocks .entry)) length (now (lengths .entry)) ⌝ }
 {
     let mut place: u32 = 0;
     while place < END {
-        overwrite_at(stocks, handles, lengths, place, number);
+        overwrite_at(stocks, handles, lengths, place, handle, length);
         place += 1;
     }
 }
@@ -86,8 +95,8 @@ fn stretch(
     terms: &mut [u32; TERMS],
     stocks: &mut [u32; STOCKS],
     handles: &mut [u64; STORE],
-    lengths: &mut [u32; STORE],
-    links: &mut [u16; LINKS],
+    lengths: &mut [u16; STORE],
+    links: &mut [u32; LINKS],
     number: u32,
 ) -> Progress
     requires { ⌜ Valid (progress .control) (tables (now terms) (now stocks) (now handles) (now lengths) (now links)) ⌝ }
@@ -96,7 +105,7 @@ fn stretch(
         (tables (now (terms .exit)) (now (stocks .exit)) (now (handles .exit)) (now (lengths .exit)) (now (links .exit))) ⌝ }
 {
     let at = runs::calls(progress, terms, stocks, handles, lengths, links, STRETCH);
-    overwrite_unused(stocks, handles, lengths, number);
+    overwrite_unused(stocks, handles, lengths, number as u64, lower_half(number));
     at
 }
 
@@ -106,8 +115,8 @@ fn block(
     terms: &mut [u32; TERMS],
     stocks: &mut [u32; STOCKS],
     handles: &mut [u64; STORE],
-    lengths: &mut [u32; STORE],
-    links: &mut [u16; LINKS],
+    lengths: &mut [u16; STORE],
+    links: &mut [u32; LINKS],
     number: u32,
 ) -> Progress
     requires { ⌜ Valid (progress .control) (tables (now terms) (now stocks) (now handles) (now lengths) (now links)) ⌝ }
@@ -131,8 +140,8 @@ fn start(
     terms: &mut [u32; TERMS],
     stocks: &mut [u32; STOCKS],
     handles: &mut [u64; STORE],
-    lengths: &mut [u32; STORE],
-    links: &mut [u16; LINKS],
+    lengths: &mut [u16; STORE],
+    links: &mut [u32; LINKS],
 ) -> Progress
     ensures { λ r. ⌜ Starts earlier seed r
         (tables (now (terms .exit)) (now (stocks .exit)) (now (handles .exit)) (now (lengths .exit)) (now (links .exit))) ⌝ }
@@ -163,8 +172,8 @@ fn blocks(
     terms: &mut [u32; TERMS],
     stocks: &mut [u32; STOCKS],
     handles: &mut [u64; STORE],
-    lengths: &mut [u32; STORE],
-    links: &mut [u16; LINKS],
+    lengths: &mut [u16; STORE],
+    links: &mut [u32; LINKS],
     number: u32,
 ) {
     let mut at = start(earlier, seed, terms, stocks, handles, lengths, links);
@@ -178,13 +187,13 @@ fn blocks(
     }
 }
 
-// A run on tables of its own, which hold a number throughout, the links its lower half.
+// A run on tables of its own, which hold a number throughout.
 fn run(seed: u32, count: u32, number: u32, earlier: u32) {
     let mut terms: [u32; TERMS] = [number; TERMS];
     let mut stocks: [u32; STOCKS] = [number; STOCKS];
     let mut handles: [u64; STORE] = [number as u64; STORE];
-    let mut lengths: [u32; STORE] = [number; STORE];
-    let mut links: [u16; LINKS] = [(number % 65536) as u16; LINKS];
+    let mut lengths: [u16; STORE] = [lower_half(number); STORE];
+    let mut links: [u32; LINKS] = [number; LINKS];
     blocks(
         earlier,
         seed,

@@ -11,7 +11,7 @@ use Rattle.definitions.specs.declared.Answer.the-variants.{Refused}
 use Rattle.definitions.specs.State.{Core, unopened}
 use Rattle.definitions.proofs.Laws.Tests.{lt-cases}
 use Rattle.grammar.specs.Bytes.{textLimit}
-use Rattle.grammar.specs.Printout.{printed, coreFrom, coreFromIn, printout, printoutIn}
+use Rattle.grammar.specs.Printout.{printed, coreFrom, printout, printoutIn}
 use Rattle.printer.specs.Printed.{lineRoom, Printed}
 use Rattle.printer.proofs.Appending.{appended-front}
 use Rattle.tables.specs.declared.Control.{Control}

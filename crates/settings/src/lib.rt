@@ -122,7 +122,7 @@ fn retune(control: Control, terms: &mut [u32; TERMS], id: u32, rate: u32, burst:
 }
 
 // Takes the places of a queue out of the order, from the front on. No handle and no length is written.
-fn unlink_ring(links: &mut [u16; LINKS], id: u32, head: u32, count: u32)
+fn unlink_ring(links: &mut [u32; LINKS], id: u32, head: u32, count: u32)
     requires { ⌜ Sound (now links) × (id < ids) × (head < places) × (count ≤ places) ⌝ }
     ensures { λ r. ⌜ Sound (now (links .exit)) ⌝ }
     ensures { λ r. ⌜ ((order : List ℕ) → Ordered (now (links .entry)) order → placesOf id order ≡ ring id head count
@@ -138,7 +138,7 @@ fn unlink_ring(links: &mut [u16; LINKS], id: u32, head: u32, count: u32)
 }
 
 // Takes what an id has waiting out of the order, where a private client has nothing.
-fn withdraw(control: Control, stocks: &[u32; STOCKS], links: &mut [u16; LINKS], id: u32)
+fn withdraw(control: Control, stocks: &[u32; STOCKS], links: &mut [u32; LINKS], id: u32)
     requires { ⌜ Ready (now stocks) (now links) id ⌝ }
     ensures { λ r. ⌜ Sound (now (links .exit)) ⌝ }
     ensures { λ r. ⌜ Withdraws control (now (stocks .entry)) (now (links .entry)) id (now (links .exit)) ⌝ }
@@ -167,7 +167,7 @@ fn clear(control: Control, stocks: &mut [u32; STOCKS], id: u32) -> Control
 }
 
 // Takes away all that an id has to send, its places in the order too. No handle and no length is written.
-fn empty(control: Control, stocks: &mut [u32; STOCKS], links: &mut [u16; LINKS], id: u32) -> Control
+fn empty(control: Control, stocks: &mut [u32; STOCKS], links: &mut [u32; LINKS], id: u32) -> Control
     requires { ⌜ Ready (now stocks) (now links) id ⌝ }
     ensures { λ r. ⌜ Empties control (now (stocks .entry)) (now (links .entry)) id
         r (now (stocks .exit)) (now (links .exit)) ⌝ }
@@ -273,8 +273,8 @@ pub fn join(
     terms: &mut [u32; TERMS],
     stocks: &mut [u32; STOCKS],
     handles: &[u64; STORE],
-    lengths: &[u32; STORE],
-    links: &[u16; LINKS],
+    lengths: &[u16; STORE],
+    links: &[u32; LINKS],
     id: u32,
     kind: u32,
     rate: u32,
@@ -300,8 +300,8 @@ pub fn change(
     terms: &mut [u32; TERMS],
     stocks: &mut [u32; STOCKS],
     handles: &[u64; STORE],
-    lengths: &[u32; STORE],
-    links: &mut [u16; LINKS],
+    lengths: &[u16; STORE],
+    links: &mut [u32; LINKS],
     id: u32,
     kind: u32,
     rate: u32,
@@ -329,8 +329,8 @@ pub fn leave(
     terms: &mut [u32; TERMS],
     stocks: &mut [u32; STOCKS],
     handles: &[u64; STORE],
-    lengths: &[u32; STORE],
-    links: &mut [u16; LINKS],
+    lengths: &[u16; STORE],
+    links: &mut [u32; LINKS],
     id: u32,
 ) -> Answered
     requires { ⌜ Valid control (tables (now terms) (now stocks) (now handles) (now lengths) (now links)) ⌝ }

@@ -99,7 +99,7 @@ fn draw_among(
 
 // The first of rules 1 to 3 that applies, and whom it picks: "no mark among the indifferent means that none of them waits".
 // The private are drawn among whether they wait or not.
-fn turn(control: Control, terms: &[u32; TERMS], links: &[u16; LINKS]) -> Choice
+fn turn(control: Control, terms: &[u32; TERMS], links: &[u32; LINKS]) -> Choice
     requires { ⌜ SoundWith control (now terms) (now links) ⌝ }
     ensures { λ r. ⌜ ((k h l : List ℕ) → SoundCore control (tables (now (terms .entry)) k h l (now (links .entry)))
         → Chosen r (turn (stateOf control (tables (now (terms .entry)) k h l (now (links .entry)))))) ⌝ }
@@ -135,14 +135,14 @@ struct Sent {
 }
 
 // The packet that lies at a place.
-fn packet_at(handles: &[u64; STORE], lengths: &[u32; STORE], place: u32) -> Packet
+fn packet_at(handles: &[u64; STORE], lengths: &[u16; STORE], place: u32) -> Packet
     requires { ⌜ place < sentinel ⌝ }
     ensures { λ r. ⌜ ((e k n : List ℕ) → r ≡ packetAt (tables e k (now (handles .entry)) (now (lengths .entry)) n) place) ⌝ }
 {
     let at = place as usize;
     Packet {
         handle: handles[at],
-        length: lengths[at],
+        length: tables::lengthened(lengths[at]),
     }
 }
 
@@ -172,7 +172,7 @@ fn pop(stocks: &mut [u32; STOCKS], id: u32)
 }
 
 // Takes a place out of the order of acceptance, where only indifferent packets stand.
-fn leave_order(control: Control, links: &mut [u16; LINKS], id: u32, place: u32)
+fn leave_order(control: Control, links: &mut [u32; LINKS], id: u32, place: u32)
     requires { ⌜ Sound (now links) ⌝ }
     ensures { λ r. ⌜ Unlinked (marked (control .indifferent) id) place (now (links .entry)) (now (links .exit)) ⌝ }
 {
@@ -198,8 +198,8 @@ fn send_packet(
     control: Control,
     stocks: &mut [u32; STOCKS],
     handles: &[u64; STORE],
-    lengths: &[u32; STORE],
-    links: &mut [u16; LINKS],
+    lengths: &[u16; STORE],
+    links: &mut [u32; LINKS],
     id: u32,
 ) -> Sent
     requires { ⌜ SomeSender control (now stocks) (now handles) (now lengths) (now links) id × (0 < countAt (now stocks) id) ⌝ }
@@ -227,8 +227,8 @@ fn send(
     control: Control,
     stocks: &mut [u32; STOCKS],
     handles: &[u64; STORE],
-    lengths: &[u32; STORE],
-    links: &mut [u16; LINKS],
+    lengths: &[u16; STORE],
+    links: &mut [u32; LINKS],
     id: u32,
 ) -> Sent
     requires { ⌜ SomeSender control (now stocks) (now handles) (now lengths) (now links) id ⌝ }
@@ -258,8 +258,8 @@ fn spend(
     control: Control,
     stocks: &mut [u32; STOCKS],
     handles: &[u64; STORE],
-    lengths: &[u32; STORE],
-    links: &mut [u16; LINKS],
+    lengths: &[u16; STORE],
+    links: &mut [u32; LINKS],
     choice: Choice,
 ) -> Sent
     requires { ⌜ SomeDue control (now stocks) (now handles) (now lengths) (now links) choice ⌝ }
@@ -336,8 +336,8 @@ pub fn tick(
     terms: &mut [u32; TERMS],
     stocks: &mut [u32; STOCKS],
     handles: &[u64; STORE],
-    lengths: &[u32; STORE],
-    links: &mut [u16; LINKS],
+    lengths: &[u16; STORE],
+    links: &mut [u32; LINKS],
 ) -> Ticked
     requires { ⌜ Valid control (tables (now terms) (now stocks) (now handles) (now lengths) (now links)) ⌝ }
     ensures { λ r. ⌜ Promised Tick control

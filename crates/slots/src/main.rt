@@ -41,8 +41,8 @@ fn write_pieces(
     terms: &mut [u32; TERMS],
     stocks: &mut [u32; STOCKS],
     handles: &mut [u64; STORE],
-    lengths: &mut [u32; STORE],
-    links: &mut [u16; LINKS],
+    lengths: &mut [u16; STORE],
+    links: &mut [u32; LINKS],
 ) -> Writing
     requires { ⌜ Start (now text) (now out) first × (pieceRoom ≡ length (now out)) ⌝ }
     ensures { λ r. ⌜ HandedOn r (printout (now (text .entry))) ⌝ }
@@ -81,8 +81,8 @@ fn write_printout(text: &[u8]) -> Writing
     let mut terms: [u32; TERMS] = [0; TERMS];
     let mut stocks: [u32; STOCKS] = [0; STOCKS];
     let mut handles: [u64; STORE] = [0; STORE];
-    let mut lengths: [u32; STORE] = [0; STORE];
-    let mut links: [u16; LINKS] = [0; LINKS];
+    let mut lengths: [u16; STORE] = [0; STORE];
+    let mut links: [u32; LINKS] = [0; LINKS];
     let mut out = io::buffer();
     let first = script::start(text, &mut out);
     write_pieces(
@@ -104,8 +104,8 @@ fn write_forecast(text: &[u8], ticks: u32) -> Writing
     let mut terms: [u32; TERMS] = [0; TERMS];
     let mut stocks: [u32; STOCKS] = [0; STOCKS];
     let mut handles: [u64; STORE] = [0; STORE];
-    let mut lengths: [u32; STORE] = [0; STORE];
-    let mut links: [u16; LINKS] = [0; LINKS];
+    let mut lengths: [u16; STORE] = [0; STORE];
+    let mut links: [u32; LINKS] = [0; LINKS];
     let mut out = io::buffer();
     let written = forecast::forecast(
         text,

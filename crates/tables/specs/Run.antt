@@ -86,7 +86,7 @@ pub record Defined (run : Run) : Type 0 where
 unfoldable pub CodeDefined : Type 0
 CodeDefined = (run : Run) → Defined run
 
--- So the limits hold of what the tables mean, and those of generator and handles where the calls' numbers have 32 bits.
+-- So the limits hold of what the tables mean, and those of generator and handles where the calls' numbers are within theirs.
 pub record CodeLimits : Type 0 where
   pub limits : (run : Run) → CoreLimits (coreAfter run)
   pub fits : (run : Run) → HistoryFits (callsOf (run .trace)) → CoreFits (coreAfter run)

@@ -92,6 +92,13 @@ pub fn with_generator(control: Control, generator: Generator) -> Control
     }
 }
 
+// A length as it is kept, as a number of a call.
+pub fn lengthened(x: u16) -> u32
+    ensures { λ r. ⌜ r ≡ x ⌝ }
+{
+    x as u32
+}
+
 pub fn wide(x: u32) -> u64
     ensures { λ r. ⌜ (r ≡ x) × (r < 2 ^ 32) ⌝ }
 {

@@ -10,10 +10,11 @@ use borrow.Author.Tests.{lt-ltb, ltb-true, leb-true}
 use Rattle.definitions.specs.declared.Packet.{Packet}
 use Rattle.definitions.specs.Event.{Arrive}
 use Rattle.definitions.specs.declared.Answer.the-variants.{Accepted, Refused}
-use Rattle.definitions.specs.Sizes.{ids, places, shares}
+use Rattle.definitions.specs.Sizes.{ids, places, shares, shortest, longest}
 use Rattle.definitions.specs.Client.{isIndifferent}
 use Rattle.definitions.specs.Checks.{activeChecks, arriveChecks}
 use Rattle.definitions.proofs.Laws.Checked.{Passed}
+use Rattle.definitions.proofs.Laws.Tests.{within-true}
 use Rattle.marks.specs.Marks.{marked}
 use Rattle.order.specs.Order.{sentinel, Sound, Absent, Ordered}
 use Rattle.order.proofs.Owner.{placesOf-absent}
@@ -80,6 +81,10 @@ module _ (c : Control) (t : Tables) (valid : Valid c t) (id : ℕ) (p : Packet) 
     arrive-room =
         ltb-true (countAt (t .stocks) id) places
         (rw (lt-ltb id ids arrive-below, queue-length t id) at (passed .1 .1 .1 .0))
+
+    pub arrive-short : p .length ≤ longest
+    unfolding arriveChecks activeChecks
+    arrive-short = within-true shortest longest (p .length) (passed .1 .1 .0) .1
 
     pub arrive-paid : isIndifferent (kindAt c id) ≡ true → shares ≤ levelAt (t .terms) id
     unfolding arriveChecks activeChecks stateOf clientsOf clientAt

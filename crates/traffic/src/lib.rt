@@ -20,7 +20,7 @@ ghost use mathlib.Core.List.{List};
 ghost use lib.ListN.{set};
 ghost use Prim.Native.Nat.{ℕ, _+_, _-_, _*_, _%_, _≤_, _<_};
 ghost use Rattle.definitions.specs.Event.{Load, Arrive};
-ghost use Rattle.definitions.specs.Sizes.{ids, places, shares};
+ghost use Rattle.definitions.specs.Sizes.{ids, places, shares, longest};
 ghost use Rattle.definitions.specs.Checks.{loadChecks, arriveChecks};
 ghost use Rattle.tables.specs.Tables.{tables, levelColumn, countColumn, written, levelAt, headAt, countAt};
 ghost use Rattle.tables.specs.Invariant.{Valid};
@@ -51,8 +51,8 @@ pub fn load(
     terms: &[u32; TERMS],
     stocks: &mut [u32; STOCKS],
     handles: &[u64; STORE],
-    lengths: &[u32; STORE],
-    links: &[u16; LINKS],
+    lengths: &[u16; STORE],
+    links: &[u32; LINKS],
     id: u32,
     dummies: u32,
 ) -> Answered
@@ -114,15 +114,15 @@ fn free_place(stocks: &[u32; STOCKS], id: u32) -> u32
     id * PLACES + (head + count) % PLACES
 }
 
-// Puts a packet at a place.
-fn keep(handles: &mut [u64; STORE], lengths: &mut [u32; STORE], place: u32, packet: Packet)
-    requires { ⌜ place < ids * places ⌝ }
+// Puts a packet at a place. 16 bits hold every length that is accepted.
+fn keep(handles: &mut [u64; STORE], lengths: &mut [u16; STORE], place: u32, packet: Packet)
+    requires { ⌜ (place < ids * places) × (packet .length ≤ longest) ⌝ }
     ensures { λ r. ⌜ now (handles .exit) ≡ set (now (handles .entry)) place (packet .handle) ⌝ }
     ensures { λ r. ⌜ now (lengths .exit) ≡ set (now (lengths .entry)) place (packet .length) ⌝ }
 {
     let at = place as usize;
     handles[at] = packet.handle;
-    lengths[at] = packet.length;
+    lengths[at] = packet.length as u16;
 }
 
 // Raises the count of an id's packets by one.
@@ -152,8 +152,8 @@ pub fn arrive(
     terms: &mut [u32; TERMS],
     stocks: &mut [u32; STOCKS],
     handles: &mut [u64; STORE],
-    lengths: &mut [u32; STORE],
-    links: &mut [u16; LINKS],
+    lengths: &mut [u16; STORE],
+    links: &mut [u32; LINKS],
     id: u32,
     packet: Packet,
 ) -> Answered

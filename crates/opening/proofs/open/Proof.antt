@@ -26,9 +26,6 @@ returns c =
     (open-refused (start .args .control) _ (start .pre) (start .args .threshold) (start .args .discipline) (start .args .seed)
     (c .refused .result) _ (c .refused .ensures) (c .before .before .open-number .ensures) (c .before .if1 .taken))
 
-cast-links : tie.Need-cast-links
-cast-links c = search needs
-
 control-of-requires : tie.Need-control-of-requires
 control-of-requires c κs = search needs
 
@@ -52,12 +49,4 @@ returns-2 c =
 
 pub open-spec : {M : Type 1} → statement M
 open-spec =
-    tie.close
-    (tie.spec
-    open-number-requires
-    refused-requires
-    returns
-    cast-links
-    control-of-requires
-    accepted-requires
-    returns-2)
+    tie.close (tie.spec open-number-requires refused-requires returns control-of-requires accepted-requires returns-2)

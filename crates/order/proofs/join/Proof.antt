@@ -8,20 +8,12 @@ use Rattle.order.specs.Order.{sentinel, joined}
 use Rattle.order.proofs.join.Statement.{statement}
 use Rattle.order.proofs.join.Tie as tie
 
-cast-links : tie.Need-cast-links
-unfolding sentinel ids places
-cast-links c = omega arith
-
 mul-links : tie.Need-mul-links
 mul-links c = search needs
 
 element-write-links : tie.Need-element-write-links
 unfolding sentinel ids places
 element-write-links c = omega arith
-
-cast-links-2 : tie.Need-cast-links-2
-unfolding sentinel ids places
-cast-links-2 c = omega arith
 
 add-links : tie.Need-add-links
 add-links c = search needs
@@ -40,12 +32,4 @@ returns c = refl
 pub join-spec : {M : Type 1} → statement M
 join-spec =
     tie.close
-    (tie.spec
-    cast-links
-    mul-links
-    element-write-links
-    cast-links-2
-    add-links
-    mul-links-2
-    element-write-links-2
-    returns)
+    (tie.spec mul-links element-write-links add-links mul-links-2 element-write-links-2 returns)

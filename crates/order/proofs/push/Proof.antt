@@ -4,15 +4,12 @@ use native.Mathlib.Omega.{arith}
 use borrow.Author.Needs.{needs}
 use Rattle.definitions.specs.Sizes.{ids, places}
 use Rattle.order.specs.Order.{sentinel, prevOf}
-use Rattle.order.proofs.PushAndUnlink.{prev-node, link-fits, pushed-sound, pushed-ordered}
+use Rattle.order.proofs.PushAndUnlink.{prev-node, pushed-sound, pushed-ordered}
 use Rattle.order.proofs.push.Statement.{statement}
 use Rattle.order.proofs.push.Tie as tie
 
 element-copy-out-last : tie.Need-element-copy-out-last
 element-copy-out-last c = search needs
-
-cast-last : tie.Need-cast-last
-cast-last c = link-fits _ (c .before .pre) _
 
 join-requires : tie.Need-join-requires
 unfolding prevOf sentinel ids places
@@ -31,4 +28,4 @@ returns c =
     )
 
 pub push-spec : {M : Type 1} → statement M
-push-spec = tie.close (tie.spec element-copy-out-last cast-last join-requires join-requires-2 returns)
+push-spec = tie.close (tie.spec element-copy-out-last join-requires join-requires-2 returns)

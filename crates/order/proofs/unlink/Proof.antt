@@ -5,7 +5,7 @@ use native.Mathlib.Omega.{arith}
 use borrow.Author.Needs.{needs}
 use Rattle.definitions.specs.Sizes.{ids, places}
 use Rattle.order.specs.Order.{sentinel, nextOf, prevOf}
-use Rattle.order.proofs.PushAndUnlink.{prev-node, next-node, link-fits, unlinked-sound, unlinked-ordered}
+use Rattle.order.proofs.PushAndUnlink.{prev-node, next-node, unlinked-sound, unlinked-ordered}
 use Rattle.order.proofs.unlink.Statement.{statement}
 use Rattle.order.proofs.unlink.Tie as tie
 
@@ -21,17 +21,11 @@ mul-prev c = search needs
 element-copy-out-prev : tie.Need-element-copy-out-prev
 element-copy-out-prev c = search needs
 
-cast-prev : tie.Need-cast-prev
-cast-prev c = link-fits _ (c .before .pre) _
-
 mul-next : tie.Need-mul-next
 mul-next c = search needs
 
 element-copy-out-next : tie.Need-element-copy-out-next
 element-copy-out-next c = search needs
-
-cast-next : tie.Need-cast-next
-cast-next c = link-fits _ (c .before .before .pre) _
 
 join-requires : tie.Need-join-requires
 unfolding nextOf prevOf sentinel ids places
@@ -55,9 +49,7 @@ unlink-spec =
     add-prev
     mul-prev
     element-copy-out-prev
-    cast-prev
     mul-next
     element-copy-out-next
-    cast-next
     join-requires
     returns)

@@ -12,13 +12,13 @@ use Rattle.remains.proofs.overwrite_unused.Statement.{statement}
 use Rattle.remains.proofs.overwrite_unused.Tie as tie
 
 abbrev Inv-loop : tie.InvT-loop
-Inv-loop stocks handles₀ lengths₀ number place₀ handles lengths place =
+Inv-loop stocks handles₀ lengths₀ handle length place₀ handles lengths place =
     (place ≤ sentinel)
-    × (handles ≡ overwrittenBelow place stocks number handles₀)
-    × (lengths ≡ overwrittenBelow place stocks number lengths₀)
+    × (handles ≡ overwrittenBelow place stocks handle handles₀)
+    × (lengths ≡ overwrittenBelow place stocks length lengths₀)
 
 abbrev μ-loop : tie.MeasureT-loop
-μ-loop stocks handles₀ lengths₀ number place₀ handles lengths place = sentinel - place
+μ-loop stocks handles₀ lengths₀ handle length place₀ handles lengths place = sentinel - place
 
 loop-holds : tie.Need-loop-holds Inv-loop μ-loop
 unfolding overwrittenBelow

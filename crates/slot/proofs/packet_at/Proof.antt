@@ -2,7 +2,6 @@
 use borrow.Author.Needs.{needs}
 use native.Mathlib.Omega.{arith}
 use Rattle.definitions.specs.Sizes.{ids, places}
-use mathlib.Core.Path.{refl}
 use Rattle.order.specs.Order.{sentinel}
 use Rattle.tables.specs.Meaning.{packetAt}
 use Rattle.slot.proofs.packet_at.Statement.{statement}
@@ -15,17 +14,21 @@ element-copy-out-t8 : tie.Need-element-copy-out-t8
 unfolding sentinel ids places
 element-copy-out-t8 c = omega arith
 
-mul-t9 : tie.Need-mul-t9
-mul-t9 c = search needs
+mul-lengthened : tie.Need-mul-lengthened
+mul-lengthened c = search needs
 
-element-copy-out-t12 : tie.Need-element-copy-out-t12
+element-copy-out-lengthened : tie.Need-element-copy-out-lengthened
 unfolding sentinel ids places
-element-copy-out-t12 c = omega arith
+element-copy-out-lengthened c = omega arith
+
+lengthened-requires : tie.Need-lengthened-requires
+lengthened-requires c κs = search needs
 
 returns : tie.Need-returns
 unfolding packetAt
-returns c es ks ns = refl
+returns c es ks ns = rw (c .lengthened .ensures)
 
 pub packet-at-spec : {M : Type 1} → statement M
 packet-at-spec =
-    tie.close (tie.spec mul-t5 element-copy-out-t8 mul-t9 element-copy-out-t12 returns)
+    tie.close
+    (tie.spec mul-t5 element-copy-out-t8 mul-lengthened element-copy-out-lengthened lengthened-requires returns)

@@ -1,10 +1,10 @@
 -- `traffic::arrive` meets its contract: it is refused with the first number that fails, and else the packet is stored, counted,
 -- paid and put into the order as ArrivedTables says. Assumes nothing.
 use borrow.Author.Needs.{needs}
-use Prim.Native.Nat.{_<_}
+use Prim.Native.Nat.{_≤_, _<_}
 use mathlib.Core.Path.{_≡_, refl, sym, _∙_}
 use mathlib.Core.Logic.{⊎-elim}
-use Rattle.definitions.specs.Sizes.{ids, places}
+use Rattle.definitions.specs.Sizes.{ids, places, longest}
 use Rattle.definitions.specs.Client.{isIndifferent}
 use Rattle.definitions.specs.Answers.{isAccepted}
 use Rattle.definitions.specs.Checks.{arriveChecks}
@@ -16,7 +16,7 @@ use Rattle.tables.proofs.MarkedKinds.{kind-indifferent}
 use Rattle.tables.proofs.Promises.{in-place, with-places}
 use Rattle.traffic.proofs.ArrivedTables.{place-stored, chargedTerms, Lined}
 use Rattle.traffic.proofs.ArrivePromise.{lined-private, lined-indifferent, arrive-refused, arrive-accepted}
-use Rattle.traffic.proofs.ArrivePromise.{arrive-sound, arrive-below, arrive-room, arrive-paid}
+use Rattle.traffic.proofs.ArrivePromise.{arrive-sound, arrive-below, arrive-short, arrive-room, arrive-paid}
 use Rattle.traffic.proofs.arrive.Statement.{statement}
 use Rattle.traffic.proofs.arrive.Tie as tie
 
@@ -59,13 +59,18 @@ room c =
     let start = c .before .before .before .before in
     arrive-room (start .args .control) (entry c) (start .pre) (start .args .id) (start .args .packet) (none c)
 
+short : (c : tie.Else1) → c .before .before .before .before .args .packet .length ≤ longest
+short c =
+    let start = c .before .before .before .before in
+    arrive-short (start .args .control) (entry c) (start .pre) (start .args .id) (start .args .packet) (none c)
+
 free-place-requires : tie.Need-free-place-requires
 free-place-requires c κs = (below (c .before), shape (c .before) .heads _ (below (c .before)), room (c .before))
 
 keep-requires : tie.Need-keep-requires
 keep-requires c κs =
     let e = c .before .before .before .before in
-    rw (c .before .before .free-place .ensures) (place-stored (entry e) _ (below e))
+    (rw (c .before .before .free-place .ensures) (place-stored (entry e) _ (below e)), short e)
 
 count-up-requires : tie.Need-count-up-requires
 count-up-requires c κs =

@@ -46,7 +46,8 @@ pub record HandleEditions : Type 0 where
       → coreFromIn older unopened [] text ≡ coreFromIn newer unopened [] text
   -- a line with a longer handle is 17
   pub longLine : (limit : ℕ) (line : List ℕ) → longer limit line ≡ true → parsedIn limit line ≡ Unread 17
-  -- so where such a line stands in a text 17 is printed, and the text goes on with the core as it was
+  -- So where such a line, closed by its line feed, comes up in what is left of a text, 17 is printed, and the text goes on with the
+  -- core as it was.
   pub longPrinted : (limit : ℕ) (core : Core) (line text : List ℕ) → Unbroken line → longer limit line ≡ true
       → printedFromIn limit core [] (line ++ lineFeed ∷ text) ≡ printed (Refused 17) ++ printedFromIn limit core [] text
   pub longPassed : (limit : ℕ) (core : Core) (line text : List ℕ) → Unbroken line → longer limit line ≡ true

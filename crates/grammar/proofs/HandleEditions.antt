@@ -4,10 +4,10 @@ use Prim.Native.Nat.{ℕ, _≤_}
 use native.Mathlib.Omega.{arith}
 use mathlib.Core.Path.{_≡_, refl, sym, ap, _∙_}
 use mathlib.Core.Logic.{_≢_}
-use mathlib.Core.Bool.{Bool, true, false, cond, _&&_, _||_}
+use mathlib.Core.Bool.{Bool, true, false, cond, _&&_}
 use mathlib.Core.List.{List, [], _∷_, _++_, List·Memᴰ, List·Memᴰ·head, List·Memᴰ·tail}
 use mathlib.Core.Option.{Option, none, some}
-use lib.Dec.{eqb, leb, ltb}
+use lib.Dec.{leb, ltb}
 use lib.ListN.{length}
 use borrow.Author.Tests.{ne-eqb, ltb-true, ltb-false, le-leb, lt-leb}
 use Rattle.definitions.specs.Sizes.{numberLimit}
@@ -16,11 +16,11 @@ use Rattle.definitions.specs.declared.Answer.the-variants.{Refused}
 use Rattle.definitions.proofs.Laws.Tests.{true-false, eqb-cases, or-false}
 use Rattle.grammar.specs.declared.Line.{Line}
 use Rattle.grammar.specs.declared.Line.the-variants.{Form, Refused as Unread}
-use Rattle.grammar.specs.Bytes.{bytes, lineFeed, textLimit}
+use Rattle.grammar.specs.Bytes.{lineFeed, textLimit}
 use Rattle.grammar.specs.Templates.{limitsIn, numbersFit, matched}
 use Rattle.grammar.specs.Grammar.{Rule, nth, arrival, rules, sizedIn, orElseIn, parsedByIn, parsedIn}
 use Rattle.grammar.specs.Printout.{printed, answered, printedFromIn, coreFromIn, printoutIn}
-use Rattle.grammar.specs.Editions.{handleAbove, longer, longerFrom, HandleEditions}
+use Rattle.grammar.specs.HandleEditions.{handleAbove, longer, longerFrom, HandleEditions}
 use Rattle.grammar.proofs.AllForms.{forms}
 use Rattle.grammar.proofs.RoundTrip.{rules-separate, fitting-read}
 use Rattle.grammar.proofs.Lines.{joins, closes, line-closed, core-joins, core-closes, core-closed}
