@@ -16,13 +16,14 @@ use Rattle.grammar.specs.Numerals.{isDigit, leading, behind, isNumeral, 
 use Rattle.grammar.specs.Templates.{limitsIn, numbersFit, filled, matched}
 use Rattle.grammar.specs.Grammar.{sizedIn, parsedByIn, parsedIn}
 use Rattle.grammar.proofs.AllForms.{forms}
+use Rattle.grammar.proofs.HandleEditions.{handle-editions}
 use Rattle.grammar.specs.Printout.{printed, answered, printedFromIn, coreFromIn, printoutIn}
 use Rattle.grammar.specs.HandleEditions.{longer, longerFrom}
 use Rattle.grammar.specs.Lines.{lines, heldFrom, heard, toldFrom, told}
 use Rattle.grammar.specs.FairSheet.{demandRows, shaped, rowsFit, rateLine, rateLines, ratesPrinted}
 use Rattle.grammar.specs.FairSheet.{sheetFits, sheetPrinted, fairPrintout}
 use Rattle.grammar.specs.Sheet.{noted, notedFrom}
-use Rattle.grammar.specs.Examples.{PaperPrintout, BadPrintout, HandlePrintouts, NumberPrintout}
+use Rattle.grammar.specs.Examples.{PaperPrintout, BadPrintout, shortText, HandlePrintouts, NumberPrintout}
 use Rattle.grammar.specs.Examples.{FairPrintouts, silence, CallAndSilence, tooLong, LimitNeeded}
 
 unfoldable pub printing : Type 0
@@ -44,9 +45,14 @@ pub bad-printout : BadPrintout
 unfolding BadPrintout printing
 bad-printout = refl
 
+-- of this text by the theorem
+short-alike : printoutIn 4294967295 shortText ≡ printoutIn 18446744073709551615 shortText
+unfolding printing longer longerFrom
+short-alike = handle-editions .samePrintout 4294967295 18446744073709551615 (omega arith) shortText refl
+
 pub handle-printouts : HandlePrintouts
 unfolding printing longer longerFrom
-handle-printouts = record { newer = refl; older = refl; longerHandles = refl; shortHandles = refl }
+handle-printouts = record { newer = refl; older = refl; longerHandles = refl; shortHandles = refl; shortAlike = short-alike }
 
 pub number-printout : NumberPrintout
 unfolding NumberPrintout printing

@@ -48,6 +48,7 @@ pub record HandlePrintouts : Type 0 where
       ++ bytes "(slot (idle 2))\n(slot (idle 2))\n(slot (idle 2))\n"
   pub longerHandles : longerFrom 4294967295 [] handlesText ≡ true
   pub shortHandles : longerFrom 4294967295 [] shortText ≡ false
+  pub shortAlike : printoutIn 4294967295 shortText ≡ printoutIn 18446744073709551615 shortText
 
 -- every other number of a call at both sides of 32 bits, numbers of more digits than 64 bits have, and shape before size
 unfoldable pub NumberPrintout : Type 0
