@@ -1,7 +1,7 @@
 #!/bin/sh
 # Shows that the tests can fail: builds the second program with each fault of paper 01's list, with the plain remainder that S-1 of
 # paper 02 does away with, with the full buckets that its S-4 does away with, with two wrong figures for S-14, with three faults against
-# S-8 and with three against S-6, and runs the tests on it.
+# S-8, with three against S-6 and with two against S-5, and runs the tests on it.
 #   tests/faults.sh BUILD CASES HANDLES    in the root of the repository, after the build of tests/run; needs target/bin/fair for the cases.
 #                                          CASES and HANDLES are the folders of the edition's cases
 # `compare`, the cases and the long run must catch 1 to 6, 9 and 9b, `pairs` the first four (the others cannot be seen by pairs, see
@@ -18,6 +18,10 @@
 # nothing, and stretches, whose handles are long, and with them pairs of 10c, are left out. Pairs run one program twice, and see 10c alone,
 # under which lines that are no call, and differ in the two texts, are taken for calls. The calls of a long run are no text, so it sees 10
 # alone; its stretches are, and see 10b too.
+# 11 and 11b are of the sheets: the operator's sentence without its target, and a tenant's sentence with its neighbour's id. `sheets` sees them where
+# it reads the lines back, 11 in the operator's sheet and 11b in a tenant's, and so do the cases. No printout, no figure and no long run has them. Nor
+# do the sheets of a pair: what is left out of both, or stands in both, is the same. A leak shows there, in what a tenant is told of its own slots
+# and of others': of 1 to 9b the sheets of pairs see the first four, as `pairs` does.
 # Prints a line for each; the printouts stay in BUILD/fault-N.
 build=$1 edition=$2 handles=$3 long=yes passed=0 failed=0 millions=10 # of calls, of which the sixth shows 5b
 
@@ -56,13 +60,15 @@ try_cases() { # fault
     esac
 }
 
-# The same for a test's run without the second program: what it says first has to have these words in it.
-try_alone() { # fault, test, what to call it, caught or not seen, words, first seed, count
-    "$build/$2" "$planted" "$6" "$7" alone >"$folder/alone.txt"
-    case "$? $(head -n 1 "$folder/alone.txt")" in
-    "0 "*) judge "$1" "$3" "not seen" "$4" "$(tail -n 1 "$folder/alone.txt")" ;;
-    "1 "*"$5"*) judge "$1" "$3" caught "$4" "$(head -n 1 "$folder/alone.txt")" ;;
-    *) judge "$1" "$3" "not tried" "$4" "the test itself failed" ;;
+# The same where what the test says first has to have these words in it. With `alone` for a last argument the second program is not asked.
+try_words() { # fault, test, what to call it, caught or not seen, words, the test's arguments
+    fault=$1 test=$2 name=$3 wanted=$4 words=$5
+    shift 5
+    "$build/$test" "$planted" "$@" >"$folder/words.txt"
+    case "$? $(head -n 1 "$folder/words.txt")" in
+    "0 "*) judge "$fault" "$name" "not seen" "$wanted" "$(tail -n 1 "$folder/words.txt")" ;;
+    "1 "*"$words"*) judge "$fault" "$name" caught "$wanted" "$(head -n 1 "$folder/words.txt")" ;;
+    *) judge "$fault" "$name" "not tried" "$wanted" "the test itself failed" ;;
     esac
 }
 
@@ -98,7 +104,8 @@ for fault in 1 2 3 4 5 5b 6 7 7b 9 9b; do
     try $fault switching "$in_spells" 1 300
     [ $fault = 5b ] || [ $long = no ] || try $fault stretches "$in_stretches" 1 1
     try $fault sure "$in_figures" 1 300
-    try_alone $fault sure "the picks alone" "$in_picks" fewer 1 100
+    try_words $fault sure "the picks alone" "$in_picks" fewer 1 100 alone
+    try_words $fault sheets "the sheets of pairs" "$in_pairs" differ 1 100 alone
     case $fault in 7*) continue ;; esac # no long run asks for a figure
     rustc -O --edition 2021 "$folder/src/greedy.rs" -o "$folder/greedy" || exit 2
     try_long $fault caught
@@ -128,7 +135,17 @@ for fault in 8 8b 8c; do
     8c) words="refused without a reason" ;;
     esac
     try $fault fair caught 1 300
-    try_alone $fault fair "the sentences alone" caught "$words" 1 300
+    try_words $fault fair "the sentences alone" caught "$words" 1 300 alone
+done
+for fault in 11 11b; do
+    plant $fault main slots
+    case $fault in 11) words="the operator's sheet" ;; 11b) words="the sheet of tenant" ;; esac
+    try_cases $fault
+    try_words $fault sheets "the sheets read back" caught "$words" 1 100
+    try_words $fault sheets "the sheets of pairs" "not seen" differ 1 100 alone
+    try $fault compare "not seen" 1 100
+    try $fault pairs "not seen" 1 100
+    try $fault sure "not seen" 1 100
 done
 echo "$passed passed, $failed failed"
 [ "$failed" = 0 ]

@@ -70,7 +70,7 @@ pub fn fill(core: &mut Core, id: usize) {
     assert_eq!(level(core, id), top);
 }
 
-const EXAMPLE: &str = "(open 1024 0 1)
+pub const EXAMPLE: &str = "(open 1024 0 1)
 (join 2 (private 300))
 (join 5 (private 100))
 (join 3 (indifferent 200 1))

@@ -44,6 +44,10 @@ pub enum Answer {
     Slot(Outcome),
 }
 
+/// What is told of a slot. Paper 02, S-5: "the outcome, its fields and, if there was a draw, target
+/// and rate sum".
+pub type Told = (Outcome, Option<(u64, u64)>);
+
 /// "A packet is a handle (any 32-bit number) and a length in bytes." By paper 02, S-6, it is any
 /// 64-bit number; it goes out as it came in, and nothing else depends on it.
 /// `number` counts accepted packets since opening: a smaller one was "accepted earlier".
@@ -313,7 +317,7 @@ impl Opened {
             Call::Leave { id } => self.leave(id),
             Call::Load { id, count } => self.load(id, count),
             Call::Arrive { id, handle, length } => self.arrive(id, handle, length),
-            Call::Tick => return Answer::Slot(self.tick()),
+            Call::Tick => return Answer::Slot(self.tick().0),
         }
         Answer::Accepted
     }
@@ -366,15 +370,15 @@ impl Opened {
 /// The tick.
 impl Opened {
     /// "Tick is one slot": rules 1 to 3 pick, and "Last" comes rule 4, "after the pick".
-    fn tick(&mut self) -> Outcome {
-        let outcome = self.slot();
+    fn tick(&mut self) -> Told {
+        let told = self.slot();
         self.refill();
-        outcome
+        told
     }
 
     /// Rule 1, "Otherwise" rule 2, "Otherwise the slot has nobody, and the generator is not
     /// stepped."
-    fn slot(&mut self) -> Outcome {
+    fn slot(&mut self) -> Told {
         let waiting = self.indifferent_waiting();
         if !waiting.is_empty() {
             return self.indifferent_slot(&waiting);
@@ -383,7 +387,7 @@ impl Opened {
         if !private.is_empty() {
             return self.private_slot(&private);
         }
-        Outcome::Nobody
+        (Outcome::Nobody, None)
     }
 
     /// The indifferent clients "with a packet waiting", by rising id.
@@ -414,13 +418,13 @@ impl Opened {
 
     /// Rule 1: "Discipline 0: the packet accepted earliest among all indifferent clients.
     /// Discipline 1: a draw among those with a packet waiting, then that client's first packet."
-    fn indifferent_slot(&mut self, waiting: &[u32]) -> Outcome {
-        let id = if self.discipline == 0 {
-            self.earliest(waiting)
+    fn indifferent_slot(&mut self, waiting: &[u32]) -> Told {
+        let (id, draw) = if self.discipline == 0 {
+            (self.earliest(waiting), None)
         } else {
             self.draw(waiting)
         };
-        self.send_first(id).expect("this client waits")
+        (self.send_first(id).expect("this client waits"), draw)
     }
 
     /// The client whose first packet is "the packet accepted earliest among all indifferent
@@ -437,17 +441,17 @@ impl Opened {
 
     /// Rule 2: "The one drawn sends its first packet; without one, a dummy, which lowers its
     /// pool by 1; without either, the slot idles."
-    fn private_slot(&mut self, private: &[u32]) -> Outcome {
-        let id = self.draw(private);
+    fn private_slot(&mut self, private: &[u32]) -> Told {
+        let (id, draw) = self.draw(private);
         if let Some(outcome) = self.send_first(id) {
-            return outcome;
+            return (outcome, draw);
         }
         let client = self.client_mut(id);
         if client.pool > 0 {
             client.pool -= 1;
-            return Outcome::Dummy { id };
+            return (Outcome::Dummy { id }, draw);
         }
-        Outcome::Idle { id }
+        (Outcome::Idle { id }, draw)
     }
 
     /// Takes out a client's first packet, if it has one. "Padding is 1518 minus the length for
@@ -460,15 +464,16 @@ impl Opened {
     }
 
     /// Paper 02, S-1: "Every user of the draw takes this over." Rules 1 and 2 both draw here, with
-    /// "the sum of the rates in the draw", and the new generator state is kept.
-    fn draw(&mut self, ids: &[u32]) -> u32 {
+    /// "the sum of the rates in the draw", and the new generator state is kept. Beside the client
+    /// drawn, "target and rate sum" are given (S-5).
+    fn draw(&mut self, ids: &[u32]) -> (u32, Option<(u64, u64)>) {
         let mut sum: u32 = 0;
         for &id in ids {
             sum += self.client(id).rate;
         }
         let draw = even_draw(self.generator, sum);
         self.generator = draw.generator;
-        self.drawn(ids, draw.target)
+        (self.drawn(ids, draw.target), Some((u64::from(draw.target), u64::from(sum))))
     }
 
     /// "The client drawn is the first, by rising id, at which the running sum of rates exceeds
@@ -493,6 +498,17 @@ impl Opened {
                 }
             }
         }
+    }
+}
+
+/// What S-5 of paper 02 asks of a core.
+#[allow(dead_code)] // not every program asks
+impl Core {
+    /// A tick, with what is told of it; `perform` makes the same one and answers the outcome alone.
+    /// `None`: unopened, so that the tick is refused with 19.
+    pub fn tick(&mut self) -> Option<Told> {
+        let opened = self.opened.as_mut()?;
+        Some(opened.tick())
     }
 }
 

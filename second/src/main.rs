@@ -1,41 +1,65 @@
-//! Reads a script from standard input and writes its printout; with `--sure N`, in place of the
-//! printout, the line of S-14's figure (paper 02) for N ticks.
+//! Reads a script from standard input and writes its printout. In place of it `--sure N` writes the
+//! line of S-14's figure (paper 02) for N ticks, and `--operator` and `--tenant I` the sheets of
+//! S-5 (docs/MANUAL.md).
 
 mod core;
 mod script;
+mod sheet;
 
 use std::ffi::OsString;
 use std::io::{Read, Write};
 
-/// What is asked for: the printout, or what the private side is sure of over so many ticks.
+/// docs/MANUAL.md, "Arguments": the line of usage.
+const USAGE: &str = "usage: slots [--sure N | --operator | --tenant I | --help]\n";
+
+/// What is asked for: the printout, what the private side is sure of over so many ticks, a sheet,
+/// or the line of usage.
 enum Task {
     Printout,
     Sure(u32),
+    Operator,
+    Tenant(u32),
+    Help,
 }
 
-/// No argument, or `--sure N`; nothing for any others.
+/// No argument, or one of the four options; nothing for any others. N and I are numbers "of the
+/// script's spelling, at most 4294967295".
 fn task(arguments: &[OsString]) -> Option<Task> {
     match arguments {
         [] => Some(Task::Printout),
+        [option] if option == "--operator" => Some(Task::Operator),
+        [option] if option == "--help" => Some(Task::Help),
         [option, n] if option == "--sure" => {
             let n = script::number(n.as_encoded_bytes())?;
             Some(Task::Sure(n))
+        }
+        [option, id] if option == "--tenant" => {
+            let id = script::number(id.as_encoded_bytes())?;
+            Some(Task::Tenant(id))
         }
         _ => None,
     }
 }
 
+/// All of standard input.
+fn text() -> std::io::Result<Vec<u8>> {
+    let mut text = Vec::new();
+    std::io::stdin().read_to_end(&mut text)?;
+    Ok(text)
+}
+
 fn main() -> std::io::Result<()> {
     let arguments: Vec<OsString> = std::env::args_os().skip(1).collect();
     let Some(task) = task(&arguments) else {
-        eprintln!("use: slots2 [--sure N] < SCRIPT, N a number from 0 to 4294967295");
+        eprint!("{}", USAGE);
         std::process::exit(2);
     };
-    let mut text = Vec::new();
-    std::io::stdin().read_to_end(&mut text)?;
     let lines = match task {
-        Task::Printout => script::run(&text),
-        Task::Sure(n) => script::sure(&text, n),
+        Task::Printout => script::run(&text()?),
+        Task::Sure(n) => script::sure(&text()?, n),
+        Task::Operator => sheet::operator(&text()?),
+        Task::Tenant(id) => sheet::tenant(&text()?, id),
+        Task::Help => USAGE.as_bytes().to_vec(),
     };
     std::io::stdout().write_all(&lines)
 }

@@ -192,32 +192,41 @@ pub fn number(text: &[u8]) -> Option<u32> {
 }
 
 /// The core behind a script and the script's printout; nothing for a "whole text over 60,000
-/// bytes". "One form a line, each line closed by a line feed"; "bytes after the last line feed,
-/// give 16"; "An empty script prints nothing."
+/// bytes". "An empty script prints nothing."
 fn carry_out(text: &[u8]) -> Option<(Core, String)> {
+    let mut core = Core::new();
+    let mut printout = String::new();
+    for line in lines(text)? {
+        printout.push_str(&print(&answer_line(&mut core, line)));
+    }
+    Some((core, printout))
+}
+
+/// The lines of a script, read; nothing for a "whole text over 60,000 bytes". "One form a line,
+/// each line closed by a line feed"; "bytes after the last line feed, give 16".
+pub(crate) fn lines(text: &[u8]) -> Option<Vec<Line>> {
     if text.len() > 60000 {
         return None;
     }
-    let mut core = Core::new();
-    let mut printout = String::new();
+    let mut lines = Vec::new();
     let mut line: Vec<u8> = Vec::new();
     for &byte in text {
         if byte == b'\n' {
-            printout.push_str(&print(&answer_line(&mut core, &line)));
+            lines.push(parse(&line));
             line.clear();
         } else {
             line.push(byte);
         }
     }
     if !line.is_empty() {
-        printout.push_str(&print(&Answer::Refused(16)));
+        lines.push(Line::Refused(16));
     }
-    Some((core, printout))
+    Some(lines)
 }
 
 /// "A line that yields no form is answered and skipped."
-fn answer_line(core: &mut Core, line: &[u8]) -> Answer {
-    match parse(line) {
+fn answer_line(core: &mut Core, line: Line) -> Answer {
+    match line {
         Line::Form(call) => core.perform(&call),
         Line::Refused(number) => Answer::Refused(number),
     }

@@ -4,17 +4,23 @@
 //! A line of a file of scripts is `LINE => ANSWER`, `N times LINE => ANSWER`, `LINE ~> ANSWER` (the last line of the text,
 //! without its line feed), empty, or a comment that begins with `#`. In LINE, \0, \t, \r, \\ and \xHH stand for a byte.
 //! `--sure N => ANSWER` is no line of the text: it asks for S-14's figure (paper 02) behind the lines above it, and ANSWER is all
-//! that is printed then.
+//! that is printed then. `--operator => ANSWER` and `--tenant I => ANSWER`, before which `N times` may stand, are none either. They
+//! are of the sheets of S-5: the lines between two empty ones are a text by themselves too, and all answers there with the same
+//! option, in order, are what is printed for that text with it.
 //!
 //! A file that ends in `.texts` has texts for FAIR (paper 02, S-8). Each goes up to the next empty line, and a line that prints
 //! nothing stands without an answer. `=> ANSWER` is no line of the text, but one that is printed for all of it.
 
 use tests::program;
 
-/// What is asked for: the printout of a script, the figure for so many ticks behind it, or the rates for a text of demands.
+/// What is asked for: the printout of a script, the figure for so many ticks behind it, one of its sheets, or the rates for a text
+/// of demands.
+#[derive(Clone, Copy, PartialEq)]
 enum Asked {
     Printout,
     Sure(u32),
+    Operator,
+    Tenant(u32),
     Rates,
 }
 
@@ -35,6 +41,7 @@ fn main() {
     let mut cases: Vec<Case> = paths.iter().flat_map(of_file).collect();
     cases.extend(whole_texts());
     cases.extend(whole_texts_asked());
+    cases.extend(whole_sheets());
     cases.extend(whole_lists());
     cases.extend(whole_texts_of_demands());
     let failed = cases.iter().filter(|case| !holds(slots, fair, case)).count();
@@ -47,6 +54,8 @@ fn holds(slots: &str, fair: &str, case: &Case) -> bool {
     let (who, run, second) = match case.asked {
         Asked::Printout => ("slots", program::run(slots, &case.text), second::script::run(&case.text)),
         Asked::Sure(n) => ("slots", program::run_sure(slots, n, &case.text), second::script::sure(&case.text, n)),
+        Asked::Operator => ("slots", program::run_operator(slots, &case.text), second::sheet::operator(&case.text)),
+        Asked::Tenant(id) => ("slots", program::run_tenant(slots, id, &case.text), second::sheet::tenant(&case.text, id)),
         Asked::Rates => ("fair", program::run(fair, &case.text), second::fair::run(&case.text)),
     };
     let first = run.ended_well && agrees(who, &run.printout, case);
@@ -71,31 +80,63 @@ fn agrees(who: &str, printed: &[u8], case: &Case) -> bool {
     false
 }
 
-/// A file of lines and answers, and what is asked for behind some of them.
+/// A file of lines and answers, what is asked for behind some of them, and the sheets of its parts.
 fn read(path: &str) -> Vec<Case> {
     let content = content_of(path);
     let mut case = Case { name: path.to_string(), asked: Asked::Printout, text: Vec::new(), expected: Vec::new() };
-    let mut asked = Vec::new();
-    for (number, row) in rows(&content).filter(|(_, row)| !row.is_empty()) {
+    let (mut asked, mut sheets, mut begin) = (Vec::new(), Vec::new(), 0);
+    for (number, row) in rows(&content) {
+        if row.is_empty() {
+            asked.extend(with_text(&mut sheets, &case.text[begin..]));
+            begin = case.text.len();
+            continue;
+        }
         let Some((line, answer, closed)) = parts(row) else {
             panic!("{path}: no answer in {row}");
         };
-        if let Some(n) = line.strip_prefix("--sure ") {
-            let n = second::script::number(n.as_bytes()).expect("a number of ticks");
-            asked.push(question(&format!("{path}:{number}"), n, &case.text, answer));
-            continue;
-        }
         let (times, line) = repeated(line);
-        for _ in 0..times {
-            case.add_line(line, closed);
-            case.add_answer(answer);
+        let place = format!("{path}:{number}");
+        match option_of(line) {
+            Some(Asked::Sure(n)) => asked.push(question(&place, n, &case.text, answer)),
+            Some(sheet) => (0..times).for_each(|_| lines_of(&mut sheets, sheet, &place, line).add_answer(answer)),
+            None => (0..times).for_each(|_| case.add(line, closed, answer)),
         }
     }
+    asked.extend(with_text(&mut sheets, &case.text[begin..]));
     asked.insert(0, case);
     asked
 }
 
+/// What an option asks for; nothing for a line of the text.
+fn option_of(line: &str) -> Option<Asked> {
+    let number = |text: &str| second::script::number(text.as_bytes()).expect("a number of a script");
+    match (line.strip_prefix("--sure "), line.strip_prefix("--tenant ")) {
+        (Some(n), _) => Some(Asked::Sure(number(n))),
+        (_, Some(id)) => Some(Asked::Tenant(number(id))),
+        _ => (line == "--operator").then_some(Asked::Operator),
+    }
+}
+
+/// The sheet of this option among those of a part, which it joins with its first line.
+fn lines_of<'a>(sheets: &'a mut Vec<Case>, asked: Asked, place: &str, line: &str) -> &'a mut Case {
+    let at = sheets.iter().position(|case| case.asked == asked).unwrap_or(sheets.len());
+    if at == sheets.len() {
+        sheets.push(Case { name: format!("{place}, {line}"), asked, text: Vec::new(), expected: Vec::new() });
+    }
+    &mut sheets[at]
+}
+
+/// The sheets of a part of the file, which ends here; they have its lines for a text.
+fn with_text(sheets: &mut Vec<Case>, text: &[u8]) -> Vec<Case> {
+    sheets.drain(..).map(|sheet| Case { text: text.to_vec(), ..sheet }).collect()
+}
+
 impl Case {
+    fn add(&mut self, line: &str, closed: bool, answer: &str) {
+        self.add_line(line, closed);
+        self.add_answer(answer);
+    }
+
     fn add_line(&mut self, line: &str, closed: bool) {
         self.text.extend(bytes(line));
         if closed {
@@ -141,10 +182,7 @@ fn read_texts(path: &str) -> Vec<Case> {
         };
         match (row.strip_prefix("=> "), parts(row)) {
             (Some(answer), _) => case.add_answer(answer),
-            (None, Some((line, answer, closed))) => {
-                case.add_line(line, closed);
-                case.add_answer(answer);
-            }
+            (None, Some((line, answer, closed))) => case.add(line, closed, answer),
             (None, None) => case.add_line(row, true),
         }
     }
@@ -234,6 +272,36 @@ fn whole_texts_asked() -> Vec<Case> {
         question("60,001 bytes without an open", 7, &vec![b'\n'; 60_001], "(refused 18)"),
         question("a million bytes", 0, &filled(1_000_000), "(refused 18)"),
     ]
+}
+
+/// The same limit for the sheets. With one share, of one private client, every target is 0; behind the 35 bytes of its open and join
+/// 59,965 bytes are 8,566 ticks and three line feeds.
+fn whole_sheets() -> Vec<Case> {
+    let opened = b"(open 1 0 1)\n(join 63 (private 1))\n".to_vec();
+    let ticks = [&opened[..], &b"(tick)\n".repeat(8566)].concat();
+    let filled = |bytes: usize| [&ticks[..], &vec![b'\n'; bytes - ticks.len()]].concat();
+    let sentences = "Client 63 had nothing to send, drawn at target 0 of a rate sum of 1.\n".repeat(8566);
+    let no_ticks = [&opened[..], &vec![b'\n'; 60_000 - opened.len()]].concat();
+    let both = |name: &str, text: Vec<u8>, expected: &str| {
+        let case = |asked: Asked, option: &str| {
+            Case { name: format!("{name}, {option}"), asked, text: text.clone(), expected: expected.as_bytes().to_vec() }
+        };
+        [case(Asked::Operator, "--operator"), case(Asked::Tenant(63), "--tenant 63")]
+    };
+    let cases = [
+        both("an empty script", Vec::new(), ""),
+        both("one line feed", b"\n".to_vec(), ""),
+        both("60,000 zero bytes", vec![0; 60_000], ""),
+        both("60,000 bytes without a tick", no_ticks, ""),
+        both("59,997 bytes of ticks without an open", b"(tick)\n".repeat(8571), &"(refused 19)\n".repeat(8571)),
+        both("60,000 bytes", filled(60_000), &sentences),
+        both("60,001 bytes", filled(60_001), "(refused 18)\n"),
+        both("60,001 zero bytes", vec![0; 60_001], "(refused 18)\n"),
+        both("65,536 bytes", filled(65_536), "(refused 18)\n"),
+        both("65,537 bytes", filled(65_537), "(refused 18)\n"),
+        both("a million bytes", filled(1_000_000), "(refused 18)\n"),
+    ];
+    cases.into_iter().flatten().collect()
 }
 
 /// Lists of 63, 64 and 65 demands, too long to be written down. "a list over 64" is also one whose ids pass 63 or do not rise;

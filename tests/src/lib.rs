@@ -12,5 +12,6 @@ pub mod program;
 pub mod random;
 pub mod scripts;
 pub mod seeds;
+pub mod sentences;
 pub mod shrink;
 pub mod steady;

@@ -20,6 +20,16 @@ pub fn run_sure(program: &str, n: u32, text: &[u8]) -> Run {
     run_with(program, &["--sure", &n.to_string()], text)
 }
 
+/// One run that asks for the operator's sheet of a script (paper 02, S-5).
+pub fn run_operator(program: &str, text: &[u8]) -> Run {
+    run_with(program, &["--operator"], text)
+}
+
+/// One run that asks for the sheet of a private tenant (paper 02, S-5).
+pub fn run_tenant(program: &str, id: u32, text: &[u8]) -> Run {
+    run_with(program, &["--tenant", &id.to_string()], text)
+}
+
 /// One run. The text is written by a thread of its own: a program that prints before it has read
 /// everything would otherwise wait for us while we wait for it.
 fn run_with(program: &str, arguments: &[&str], text: &[u8]) -> Run {

@@ -16,6 +16,7 @@ pub mod Limits
 pub mod Fits
 pub mod Bound
 pub mod Sameness
+pub mod ToldNotes
 pub mod Stretches
 pub mod Fairness
 -- the versions that have to break the contract

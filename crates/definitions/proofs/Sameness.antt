@@ -4,5 +4,6 @@ pub mod Slot
 pub mod Kinds
 pub mod Histories
 pub mod Theorem
+pub mod TenantSheets
 pub mod Leaks
 pub mod Settings

@@ -11,7 +11,7 @@ use borrow.Author.Tests.{lt-ltb, ltb-true, ltb-false, not-false}
 use Rattle.definitions.specs.Sizes.{shares, throws}
 use Rattle.definitions.specs.Generator.{xorLeft, xorRight, stepped}
 use Rattle.definitions.specs.Tick.{anyBelow}
-use Rattle.definitions.specs.Sample.{evenSpan, counted, sampleFrom, sample}
+use Rattle.definitions.specs.Sample.{Sample, evenSpan, counted, sampleFrom, sample}
 use Rattle.definitions.specs.Evenness.{steppedBy, Sampled, Sampling, AtMostTwoSteps}
 use Rattle.definitions.proofs.Laws.Tests.{cond-both}
 use Rattle.definitions.proofs.Laws.Sums.{anyBelow-false}
@@ -45,6 +45,17 @@ module _ (sum steps value : ℕ) where
       → sampleFrom sum (suc left) steps value ≡ sampleFrom sum left (suc steps) (stepped value)
   unfolding sampleFrom
   sampleFrom-thrown left e = rw e
+
+-- the sum that a sample tells is the one that it was taken below
+sampleFrom-sum : (sum left steps value : ℕ) → sampleFrom sum left steps value .sum ≡ sum
+unfolding sampleFrom
+sampleFrom-sum sum zero steps value = refl
+sampleFrom-sum sum (suc left) steps value =
+    cond-both (λ (s : Sample). s .sum ≡ sum) (ltb value (evenSpan sum)) refl (sampleFrom-sum sum left (suc steps) (stepped value))
+
+pub sample-sum : (sum generator : ℕ) → sample sum generator .sum ≡ sum
+unfolding sample
+sample-sum sum generator = sampleFrom-sum sum throws 1 (stepped generator)
 
 -- from a value that so many steps gave, where so many more may still be thrown away
 pub sampleFrom-sampled : (sum generator left steps value : ℕ) → value ≡ steppedBy steps generator

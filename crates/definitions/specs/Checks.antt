@@ -38,6 +38,11 @@ unfoldable pub checked : List Check → (ℕ → Core) → Result → Result
 checked [] left done = done
 checked (c ∷ cs) left done = cond (c .passed) (checked cs left done) (refused (c .number) (left (c .number)))
 
+-- the number of the first check that fails, 0 where none does
+unfoldable pub firstFailed : List Check → ℕ
+firstFailed [] = 0
+firstFailed (c ∷ cs) = cond (c .passed) (firstFailed cs) (c .number)
+
 -- "and nothing changes": every refusal leaves the core as it was
 abbrev pub unchanged : Core → ℕ → Core
 unchanged before number = before

@@ -21,8 +21,10 @@ pub mod Core
 -- what is claimed: of all histories, of a draw, and case by case; and fair rates, with what is claimed of them
 pub mod History
 pub mod Sameness
+pub mod Notes
 pub mod Limits
 pub mod Fits
+pub mod TenantSheet
 pub mod Stretch
 pub mod Bound
 pub mod Greedy

@@ -1,4 +1,5 @@
-// The types of the papers that code and definitions share: a packet, an outcome, an answer. Their meaning stands in specs/.
+// The types of the papers that code and definitions share: a packet, an outcome, an answer, and what a sheet tells of a slot. Their
+// meaning stands in specs/.
 // Their numbers, too, as the code has them; for the proofs they stand in specs/Sizes.antt, and where two disagree a proof fails.
 
 // The largest number of a call, and the largest handle.
@@ -64,4 +65,19 @@ pub enum Answer {
     Accepted,
     Refused { number: u32 },
     Slot { outcome: Outcome },
+}
+
+// Why a slot is whose it is: by a draw, with its target and the sum of the rates in it, or without one.
+pub enum Reason {
+    Undrawn,
+    Drawn { target: u32, sum: u64 },
+}
+
+// What a sheet tells of a tick: the number of a refusal; the slot, whole; or only that it went to an indifferent client, or to
+// another private one.
+pub enum Note {
+    Refusal { number: u32 },
+    Told { outcome: Outcome, reason: Reason },
+    ToIndifferent,
+    ToAnother,
 }

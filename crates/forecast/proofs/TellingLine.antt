@@ -1,7 +1,7 @@
 -- The line behind a script: what a line that is written at the start of a buffer leaves there, and which line it is. Assumes
 -- nothing.
 use Prim.Native.Nat.{ℕ, _+_, _≤_, _<_}
-use mathlib.Core.Path.{_≡_, refl, sym, ap, subst, _∙_}
+use mathlib.Core.Path.{_≡_, refl, sym, ap, _∙_}
 use mathlib.Core.Bool.{Bool, true, false, not}
 use mathlib.Core.List.{List, _++_, append-nil}
 use native.Mathlib.Omega.{arith}
@@ -11,6 +11,7 @@ use borrow.Author.Tests.{leb-false, lt-ltb, le-ltb, not-true}
 use Rattle.definitions.specs.declared.Answer.the-variants.{Refused}
 use Rattle.definitions.specs.State.{unopened}
 use Rattle.definitions.specs.Guarantee.{sure}
+use Rattle.grammar.specs.declared.Audience.the-variants.{Caller}
 use Rattle.grammar.specs.Bytes.{textLimit}
 use Rattle.grammar.specs.Printout.{printed, printout, printoutIn}
 use Rattle.grammar.specs.Forecast.{sureLine, forecast, forecastBehind}
@@ -35,10 +36,6 @@ module _ (c : Control) (t : Tables) (ticks : ℕ) where
       → sureLine ticks picks ≡ forecast (coreOf c t) ticks
   unfolding coreOf forecast
   line-opened e given = rw (given, e)
-
-pub line-as : {line other before : List ℕ} {at : ℕ} {after : List ℕ} {end : ℕ} → line ≡ other
-    → LineWritten line before at after end → LineWritten other before at after end
-line-as {before = before} {at} {after} {end} e w = subst (λ (l : List ℕ). LineWritten l before at after end) e w
 
 -- ---- which line is told
 
@@ -68,8 +65,8 @@ module _ (text : List ℕ) (ticks : ℕ) (before : List ℕ) (t : Tables) where
     told-long {out} {r} u same s over = record {
       told = λ fits.
           sym (append-nil (take (r .written) out))
-          ∙ ap (λ (rest : List ℕ). take (r .written) out ++ rest) (sym (ahead-none unopened text (r .next) (omega (arith, end))))
-          ∙ s .printed (omega arith)
+          ∙ ap (λ (rest : List ℕ). take (r .written) out ++ rest) (sym (ahead-none Caller unopened text (r .next) (omega (arith, end))))
+          ∙ s .printed Caller (omega arith)
           ∙ sym (behind-long text ticks over);
       fits = s .fits;
       bare = λ little. absurd (omega arith);

@@ -1,5 +1,6 @@
 // The forecast behind a script (paper 02, S-14, "a figure for leases"): the script is carried out, its answers are dropped, and
 // one line tells of how many picks the private side is then sure in the next ticks.
+use grammar::Audience;
 use grammar::TEXT_LIMIT;
 use order::LINKS;
 use script::Progress;
@@ -38,6 +39,7 @@ fn carry_out(
     let mut at = first.next;
     while at < text.len() {
         let piece = script::piece(
+            Audience::Caller,
             text,
             at,
             out,

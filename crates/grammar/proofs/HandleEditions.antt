@@ -16,10 +16,12 @@ use Rattle.definitions.specs.declared.Answer.the-variants.{Refused}
 use Rattle.definitions.proofs.Laws.Tests.{true-false, eqb-cases, or-false}
 use Rattle.grammar.specs.declared.Line.{Line}
 use Rattle.grammar.specs.declared.Line.the-variants.{Form, Refused as Unread}
+use Rattle.grammar.specs.declared.Audience.{Audience}
+use Rattle.grammar.specs.declared.Audience.the-variants.{Caller}
 use Rattle.grammar.specs.Bytes.{lineFeed, textLimit}
 use Rattle.grammar.specs.Templates.{limitsIn, numbersFit, matched}
 use Rattle.grammar.specs.Grammar.{Rule, nth, arrival, rules, sizedIn, orElseIn, parsedByIn, parsedIn}
-use Rattle.grammar.specs.Printout.{printed, answered, printedFromIn, coreFromIn, printoutIn}
+use Rattle.grammar.specs.Printout.{printed, answered, shown, printedFromIn, coreFromIn, printoutIn}
 use Rattle.grammar.specs.HandleEditions.{handleAbove, longer, longerFrom, HandleEditions}
 use Rattle.grammar.proofs.AllForms.{forms}
 use Rattle.grammar.proofs.RoundTrip.{rules-separate, fitting-read}
@@ -35,7 +37,7 @@ arrival-limits handles = refl
 
 -- what an arrival's numbers make, as they fit or do not
 arrivalIf : List ℕ → Bool → Line
-arrivalIf numbers fit = cond fit (Form (arrival .call numbers)) (Unread 17)
+arrivalIf numbers fit = cond fit (Form (arrival .makes numbers)) (Unread 17)
 
 sized-arrival : (handles : ℕ) (numbers : List ℕ)
     → sizedIn handles arrival numbers ≡ arrivalIf numbers (numbersFit (arrivalLimits handles) numbers)
@@ -151,31 +153,30 @@ unfolding longerFrom
 longer-joins limit line b text other = rw (ne-eqb b lineFeed other, longerFrom)
 
 -- two editions print the same of what is left of a text, and leave the same core
-module _ (older newer : ℕ) where
+module _ (older newer : ℕ) (to : Audience) where
   abbrev Same : Core → List ℕ → List ℕ → Type 0
   Same core line text =
-      (printedFromIn older core line text ≡ printedFromIn newer core line text)
+      (printedFromIn older to core line text ≡ printedFromIn newer to core line text)
       × (coreFromIn older core line text ≡ coreFromIn newer core line text)
 
   same-closes : (core : Core) (line text : List ℕ) → parsedIn older line ≡ parsedIn newer line
       → Same (answered core (parsedIn newer line) .core) [] text
       → Same core line (lineFeed ∷ text)
-  same-closes core line text read rest =
-      let there = answered core (parsedIn newer line) in (
-        closes older core line text
-            ∙ ap (λ (l : Line). printed (answered core l .answer) ++ printedFromIn older (answered core l .core) [] text) read
-            ∙ ap (λ (out : List ℕ). printed (there .answer) ++ out) (rest .0)
-            ∙ sym (closes newer core line text),
-        core-closes older core line text
-            ∙ ap (λ (l : Line). coreFromIn older (answered core l .core) [] text) read
-            ∙ rest .1
-            ∙ sym (core-closes newer core line text),
-      )
+  same-closes core line text read rest = (
+    closes older to core line text
+        ∙ ap (λ (l : Line). shown to core l ++ printedFromIn older to (answered core l .core) [] text) read
+        ∙ ap (λ (out : List ℕ). shown to core (parsedIn newer line) ++ out) (rest .0)
+        ∙ sym (closes newer to core line text),
+    core-closes older core line text
+        ∙ ap (λ (l : Line). coreFromIn older (answered core l .core) [] text) read
+        ∙ rest .1
+        ∙ sym (core-closes newer core line text),
+  )
 
   same-joins : (core : Core) (line : List ℕ) (b : ℕ) (text : List ℕ) → b ≢ lineFeed → Same core (line ++ (b ∷ [])) text
       → Same core line (b ∷ text)
   same-joins core line b text other rest = (
-    joins older core line b text other ∙ rest .0 ∙ sym (joins newer core line b text other),
+    joins older to core line b text other ∙ rest .0 ∙ sym (joins newer to core line b text other),
     core-joins older core line (b ∷ []) text (other, tt)
         ∙ rest .1
         ∙ sym (core-joins newer core line (b ∷ []) text (other, tt)),
@@ -192,7 +193,7 @@ module _ (older newer : ℕ) where
       (λ other. same-joins core line b text other
       (same-from up core (line ++ (b ∷ [])) text (sym (longer-joins older line b text other) ∙ short)))
 
-  same-printout : older ≤ newer → (text : List ℕ) → longerFrom older [] text ≡ false → printoutIn older text ≡ printoutIn newer text
+  same-printout : older ≤ newer → (text : List ℕ) → longerFrom older [] text ≡ false → printoutIn older to text ≡ printoutIn newer to text
   unfolding printoutIn
   same-printout up text short = go (ltb textLimit (length text)) (same-from up unopened [] text short .0)
     where
@@ -203,15 +204,15 @@ module _ (older newer : ℕ) where
       go false same = same
 
 pub handle-editions : HandleEditions
-unfolding answered
+unfolding answered shown
 handle-editions = record {
   sameLine = λ older newer up line short. same-line older newer line up short;
-  samePrintout = same-printout;
-  sameCore = λ older newer up text short. same-from older newer up unopened [] text short .1;
+  samePrintout = λ older newer up to text short. same-printout older newer to up text short;
+  sameCore = λ older newer up text short. same-from older newer Caller up unopened [] text short .1;
   longLine = long-line;
   longPrinted = λ limit core line text whole long.
-      line-closed limit core line text whole
-      ∙ ap (λ (l : Line). printed (answered core l .answer) ++ printedFromIn limit (answered core l .core) [] text)
+      line-closed limit Caller core line text whole
+      ∙ ap (λ (l : Line). shown Caller core l ++ printedFromIn limit Caller (answered core l .core) [] text)
       (long-line limit line long);
   longPassed = λ limit core line text whole long.
       core-closed limit core line text whole

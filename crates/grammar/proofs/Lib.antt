@@ -2,9 +2,13 @@ pub mod AllForms
 pub mod TemplateSteps
 pub mod Decimals
 pub mod ReadBack
+pub mod Phrases
 pub mod RoundTrip
 pub mod Lines
 pub mod HandleEditions
 pub mod LineSplits
+pub mod LinesShown
+pub mod ReadSentences
 pub mod Sheets
+pub mod TenantPapers
 pub mod Examples

@@ -73,11 +73,11 @@ abbrev isNil : List ℕ → Bool
 isNil [] = true
 isNil (b ∷ bs) = false
 
-isLine : List ℕ → Bool
+unfoldable pub isLine : List ℕ → Bool
 isLine [] = false
 isLine (b ∷ bs) = cond (eqb b lineFeed) (isNil bs) (isLine bs)
 
-filled-line : (t ns : List ℕ) → isLine t ≡ true → OneLine (filled t ns)
+pub filled-line : (t ns : List ℕ) → isLine t ≡ true → OneLine (filled t ns)
 unfolding isLine filled
 filled-line [] ns e = true-false e refl
 filled-line (b ∷ bs) ns e = go (eqb b lineFeed) refl (isGap b) refl e ns (λ ms q. filled-line bs ms q)

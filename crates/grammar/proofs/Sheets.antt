@@ -3,119 +3,41 @@
 use Prim.Native.Nat.{ℕ, zero, suc, _≤_}
 use mathlib.Core.Path.{_≡_, refl, sym, ap, _∙_}
 use mathlib.Core.Bool.{Bool, true, false, cond}
-use mathlib.Core.Logic.{_≢_}
-use mathlib.Core.List.{List, [], _∷_, _++_, map, zip, zipWith, flatten, reverse, reverseAux, reverseAux-append, reverse-reverse, append-assoc, append-nil}
+use mathlib.Core.List.{List, [], _∷_, _++_, map, zip, zipWith, flatten, reverse, reverseAux, reverseAux-append, reverse-reverse}
 use native.Mathlib.Omega.{arith}
-use lib.Dec.{eqb}
 use lib.ListN.{length, take}
-use borrow.Author.Tests.{eqb-true, eqb-false, le-ltb}
 use Rattle.definitions.specs.declared.Answer.{Answer}
-use Rattle.definitions.specs.declared.Answer.the-variants.{Refused}
 use Rattle.definitions.specs.State.{Core}
-use Rattle.definitions.specs.Checks.{Result}
 use Rattle.definitions.specs.History.{History, start, _then_, Place, end, before, calls, Dealing, Trace, Holdings, scheduler, after, answerAt, dealingAt, traceOf}
 use Rattle.definitions.specs.Sameness.{kept, log, answersOf, SameDealings, LooksSame, Sameness}
 use Rattle.definitions.proofs.Sameness.Theorem.{sameness}
 use Rattle.grammar.specs.declared.Line.{Line}
 use Rattle.grammar.specs.declared.Line.the-variants.{Form, Refused as Unread}
-use Rattle.grammar.specs.Bytes.{lineFeed, Unbroken, textLimit}
-use Rattle.grammar.specs.Grammar.{parsed}
+use Rattle.grammar.specs.declared.Audience.the-variants.{Caller}
+use Rattle.grammar.specs.Bytes.{textLimit}
 use Rattle.grammar.specs.Calls.{eventOf}
-use Rattle.grammar.specs.Printout.{printed, answered, printedFrom, printedFromIn, printout, printoutIn}
-use Rattle.grammar.specs.Lines.{lines, held, heard, toldFrom, told, printedLine, printedLines, LinesPrinted}
+use Rattle.grammar.specs.Printout.{printed, answered, shown, printout}
+use Rattle.grammar.specs.Lines.{lines, held, heard, toldFrom, told, printedLines, LinesPrinted}
 use Rattle.grammar.specs.Sheet.{Sheet, sheet, noted, notedFrom, printedOf, SameLines, PrintsSame, SamenessOnPaper}
-use Rattle.grammar.proofs.LineSplits.{OneLine, closed-line, open-line, held-closed, held-open, printed-line}
+use Rattle.grammar.proofs.LineSplits.{OneLine, printed-line}
+use Rattle.grammar.proofs.LinesShown.{short-printed}
 
--- ---- the printout falls into the lines that the history's calls print
+-- ---- every printed answer is one line, so the lines of the whole are they
 
-line-printed : (h : History) (l : Line) → printed (answered (after scheduler h) l .answer) ≡ printedLine h l
-unfolding answered printedLine answerAt
-line-printed h (Form call) = refl
-line-printed h (Unread n) = refl
+shown-one : (core : Core) (l : Line) → OneLine (shown Caller core l)
+unfolding shown
+shown-one core l = printed-line (answered core l .answer)
 
-line-heard : (h : History) (l : Line) → answered (after scheduler h) l .core ≡ after scheduler (heard h l)
-unfolding answered heard after
-line-heard h (Form call) = refl
-line-heard h (Unread n) = refl
-
-unbroken-append : (line : List ℕ) (b : ℕ) → Unbroken line → b ≢ lineFeed → Unbroken (line ++ (b ∷ []))
-unbroken-append [] b whole other = (other, tt)
-unbroken-append (x ∷ line) b whole other = (whole .0, unbroken-append line b (whole .1) other)
-
--- what lines print, one after the other
-first-printed : (h : History) (line : List ℕ) (rest : List (List ℕ)) (l : Line) → held line ≡ l
-    → flatten (printedLines h (line ∷ rest)) ≡ printedLine h l ++ flatten (printedLines (heard h l) rest)
-unfolding flatten printedLines
-first-printed h line rest l e = rw e
-
--- at a line feed, and behind the last one
-closed-printed : (h : History) (line text : List ℕ) → Unbroken line
-    → flatten (printedLines h (lines (line ++ lineFeed ∷ text)))
-    ≡ printedLine h (parsed line) ++ flatten (printedLines (heard h (parsed line)) (lines text))
-closed-printed h line text whole =
-    ap (λ (ls : List (List ℕ)). flatten (printedLines h ls))
-    (ap lines (sym (append-assoc line (lineFeed ∷ []) text)) ∙ closed-line line whole text)
-    ∙ first-printed h (line ++ lineFeed ∷ []) (lines text) (parsed line) (held-closed line whole)
-
-open-printed : (h : History) (b : ℕ) (line : List ℕ) → Unbroken (b ∷ line)
-    → flatten (printedLines h (lines (b ∷ line))) ≡ printed (Refused 16)
-unfolding flatten printedLines heard printedLine
-open-printed h b line whole =
-    ap (λ (ls : List (List ℕ)). flatten (printedLines h ls)) (open-line b line whole)
-    ∙ first-printed h (b ∷ line) [] (Unread 16) (held-open (b ∷ line) whole)
-    ∙ append-nil (printed (Refused 16))
-
--- what is left of a text, with the bytes of the line so far
-sheet-printed : (h : History) (line text : List ℕ) → Unbroken line
-    → printedFrom (after scheduler h) line text ≡ flatten (printedLines h (lines (line ++ text)))
-unfolding printedFromIn
-sheet-printed h [] [] whole = unfold flatten printedLines lines in refl
-sheet-printed h (b ∷ line) [] whole =
-    sym (ap (λ (t : List ℕ). flatten (printedLines h (lines t))) (append-nil (b ∷ line)) ∙ open-printed h b line whole)
-sheet-printed h line (b ∷ text) whole = go (eqb b lineFeed) refl
-    (λ l. sheet-printed (heard h l) [] text tt)
-    (λ other. sheet-printed h (line ++ (b ∷ [])) text (unbroken-append line b whole other))
-  where
-    -- what the line gets, once it is closed
-    read : Result
-    read = answered (after scheduler h) (parsed line)
-
-    go : (t : Bool) → eqb b lineFeed ≡ t
-        → ((l : Line) → printedFrom (after scheduler (heard h l)) [] text ≡ flatten (printedLines (heard h l) (lines text)))
-        → (b ≢ lineFeed → printedFrom (after scheduler h) (line ++ (b ∷ [])) text
-        ≡ flatten (printedLines h (lines ((line ++ (b ∷ [])) ++ text))))
-        → elim t [
-          | true ↦ printed (read .answer) ++ printedFrom (read .core) [] text
-          | false ↦ printedFrom (after scheduler h) (line ++ (b ∷ [])) text
-        ]
-        ≡ flatten (printedLines h (lines (line ++ b ∷ text)))
-    go true e later joins =
-        ap (λ (l : List ℕ). l ++ printedFrom (read .core) [] text) (line-printed h (parsed line))
-        ∙ ap (λ (l : List ℕ). printedLine h (parsed line) ++ l)
-        (ap (λ (core : Core). printedFrom core [] text) (line-heard h (parsed line)) ∙ later (parsed line))
-        ∙ sym (closed-printed h line text whole)
-        ∙ ap (λ (x : ℕ). flatten (printedLines h (lines (line ++ x ∷ text)))) (sym (eqb-true b lineFeed e))
-    go false e later joins =
-        joins (eqb-false b lineFeed e) ∙ ap (λ (t : List ℕ). flatten (printedLines h (lines t))) (append-assoc line (b ∷ []) text)
-
--- every printed line is one line, so the lines of the whole are they
-printed-one : (h : History) (l : Line) → OneLine (printedLine h l)
-unfolding printedLine
-printed-one h (Form call) = printed-line (answerAt scheduler h (eventOf call))
-printed-one h (Unread n) = printed-line (Refused n)
-
-lines-again : (h : History) (ls : List (List ℕ)) → lines (flatten (printedLines h ls)) ≡ printedLines h ls
+lines-again : (h : History) (ls : List (List ℕ)) → lines (flatten (printedLines Caller h ls)) ≡ printedLines Caller h ls
 unfolding flatten printedLines lines
 lines-again h [] = refl
 lines-again h (l ∷ ls) =
-    printed-one h (held l) (flatten (printedLines (heard h (held l)) ls))
-    ∙ ap (λ (rest : List (List ℕ)). printedLine h (held l) ∷ rest) (lines-again (heard h (held l)) ls)
+    shown-one (after scheduler h) (held l) (flatten (printedLines Caller (heard h (held l)) ls))
+    ∙ ap (λ (rest : List (List ℕ)). shown Caller (after scheduler h) (held l) ∷ rest) (lines-again (heard h (held l)) ls)
 
 pub lines-printed : LinesPrinted
-unfolding LinesPrinted after printoutIn
-lines-printed text short =
-    ap lines (rw (printoutIn, le-ltb textLimit (length text) short) (sheet-printed start [] text tt))
-    ∙ lines-again start (lines text)
+unfolding LinesPrinted
+lines-printed text short = ap lines (short-printed Caller text short) ∙ lines-again start (lines text)
 
 -- ---- what is noted of a sheet is a log, from the first to the last
 
@@ -125,7 +47,7 @@ noted-if false x l = refl
 
 -- the rows of lines that were told behind a history
 rowsOf : History → List (List ℕ) → Sheet
-rowsOf h ls = zip ls (printedLines h ls)
+rowsOf h ls = zip ls (printedLines Caller h ls)
 
 inPrint : (ℕ × Answer) → ℕ × List ℕ
 inPrint entry = (entry .0, printed (entry .1))
@@ -136,8 +58,8 @@ module _ (chosen : ℕ) (which : Trace → Dealing → Bool) where
   printedLog h = log chosen which (λ d. printed (d .answer)) (traceOf scheduler h)
 
   line-noted : (h : History) (l : Line)
-      → reverseAux (noted chosen which h l (printedLine h l)) (printedLog h) ≡ printedLog (heard h l)
-  unfolding noted printedLine heard printedLog log traceOf dealingAt
+      → reverseAux (noted chosen which h l (shown Caller (after scheduler h) l)) (printedLog h) ≡ printedLog (heard h l)
+  unfolding noted shown answered answerAt heard printedLog log traceOf dealingAt
   line-noted h (Form call) =
       noted-if (which (traceOf scheduler h) (dealingAt scheduler h (eventOf call)))
       (calls (kept chosen (traceOf scheduler h)), printed (answerAt scheduler h (eventOf call))) (printedLog h)
@@ -150,7 +72,7 @@ module _ (chosen : ℕ) (which : Trace → Dealing → Bool) where
   rows-noted h (suc m) [] = refl
   rows-noted h (suc m) (l ∷ ls) =
       let later : List (ℕ × List ℕ) = notedFrom chosen which (heard h (held l)) (take m (rowsOf (heard h (held l)) ls)) in
-      reverseAux-append (noted chosen which h (held l) (printedLine h (held l))) later (printedLog h)
+      reverseAux-append (noted chosen which h (held l) (shown Caller (after scheduler h) (held l))) later (printedLog h)
       ∙ ap (reverseAux later) (line-noted h (held l))
       ∙ rows-noted (heard h (held l)) m ls
 

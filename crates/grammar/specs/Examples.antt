@@ -1,14 +1,16 @@
 -- Examples beside the claims: the printout that paper 01 prints ("Script and printout") as S-4 of paper 02 amends it, one of bad
 -- lines, handles and other numbers at their limits (S-6), texts of demands (S-8), and two texts of which demand 3 on paper
--- speaks, with what it compares there and what it does not.
+-- speaks, with what it compares there and what it does not, and with their sheets (S-5).
 use Prim.Native.Nat.{ℕ}
 use mathlib.Core.Path.{_≡_}
+use mathlib.Core.Logic.{_≢_}
 use mathlib.Core.Bool.{true, false, _&&_}
 use mathlib.Core.List.{List, [], _∷_, _++_}
 use lib.ListN.{replicate}
 use Rattle.definitions.specs.Sameness.{indifferentAt, names, departure}
+use Rattle.grammar.specs.declared.Audience.the-variants.{Caller, Operator, Tenant}
 use Rattle.grammar.specs.Bytes.{bytes, lineFeed, textLimit}
-use Rattle.grammar.specs.Printout.{printoutIn, printout}
+use Rattle.grammar.specs.Printout.{printoutIn, printoutFor, printout}
 use Rattle.grammar.specs.HandleEditions.{longerFrom}
 use Rattle.grammar.specs.Lines.{lines}
 use Rattle.grammar.specs.FairSheet.{fairPrintout}
@@ -40,15 +42,15 @@ shortText = bytes "(open 1024 0 1)\n(join 2 (private 300))\n(arrive 2 (packet 42
 
 -- The two editions that S-6 speaks of.
 pub record HandlePrintouts : Type 0 where
-  pub newer : printoutIn 18446744073709551615 handlesText
+  pub newer : printoutIn 18446744073709551615 Caller handlesText
       ≡ bytes "(ok)\n(ok)\n(ok)\n(ok)\n(ok)\n(refused 17)\n(refused 17)\n(slot (real 2 4294967295 64 1454))\n"
       ++ bytes "(slot (real 2 4294967296 64 1454))\n(slot (real 2 18446744073709551615 1518 0))\n(slot (idle 2))\n"
-  pub older : printoutIn 4294967295 handlesText
+  pub older : printoutIn 4294967295 Caller handlesText
       ≡ bytes "(ok)\n(ok)\n(ok)\n(refused 17)\n(refused 17)\n(refused 17)\n(refused 17)\n(slot (real 2 4294967295 64 1454))\n"
       ++ bytes "(slot (idle 2))\n(slot (idle 2))\n(slot (idle 2))\n"
   pub longerHandles : longerFrom 4294967295 [] handlesText ≡ true
   pub shortHandles : longerFrom 4294967295 [] shortText ≡ false
-  pub shortAlike : printoutIn 4294967295 shortText ≡ printoutIn 18446744073709551615 shortText
+  pub shortAlike : printoutIn 4294967295 Caller shortText ≡ printoutIn 18446744073709551615 Caller shortText
 
 -- every other number of a call at both sides of 32 bits, numbers of more digits than 64 bits have, and shape before size
 unfoldable pub NumberPrintout : Type 0
@@ -121,6 +123,40 @@ pub record CallAndSilence : Type 0 where
       ≡ (6, bytes "(slot (real 2 17 64 1454))\n") ∷ []
   pub neighbourInSilence : printedOf 5 (λ t d. departure 2 d) (sheet silence (printout silence))
       ≡ (6, bytes "(slot (idle 2))\n") ∷ []
+
+-- Their sheets (paper 02, S-5). Client 5's is the same with client 2's call and without it; the operator's, which is for the operator
+-- alone, is not.
+pub record SheetsOfTwo : Type 0 where
+  pub tenantInCall : printoutFor (Tenant 5) call
+      ≡ bytes "Client 5 had nothing to send, drawn at target 369 of a rate sum of 400.\n"
+      ++ bytes "The slot went to another private client.\nThe slot went to an indifferent client.\n"
+  pub tenantAlike : printoutFor (Tenant 5) call ≡ printoutFor (Tenant 5) silence
+  pub operatorInCall : printoutFor Operator call
+      ≡ bytes "Client 5 had nothing to send, drawn at target 369 of a rate sum of 400.\n"
+      ++ bytes "Client 2 sent packet 17 of 64 bytes with 1454 bytes of padding, drawn at target 289 of a rate sum of 400.\n"
+      ++ bytes "Client 3 sent packet 90 of 1518 bytes with 0 bytes of padding, first come first served.\n"
+  pub operatorInSilence : printoutFor Operator silence
+      ≡ bytes "Client 5 had nothing to send, drawn at target 369 of a rate sum of 400.\n"
+      ++ bytes "Client 2 had nothing to send, drawn at target 289 of a rate sum of 400.\n"
+      ++ bytes "Client 3 sent packet 90 of 1518 bytes with 0 bytes of padding, first come first served.\n"
+  pub operatorsDiffer : printoutFor Operator call ≢ printoutFor Operator silence
+
+-- Client 2 before any open, not active, indifferent, private, and gone; bytes that are no line, and a tick that is not closed.
+abbrev pub changing : List ℕ
+changing =
+    bytes "(tick)\n(open 1024 1 1)\n(tick)\n(join 2 (indifferent 1024 1))\n(tick)\n(arrive 2 (packet 7 100))\n(tick)\nstray\n"
+    ++ bytes "(change 2 (private 300))\n(load 2 1)\n(tick)\n(leave 2)\n(tick)\n(tick)"
+
+pub record SheetsOfChanges : Type 0 where
+  pub operator : printoutFor Operator changing
+      ≡ bytes "(refused 19)\nNobody had the slot.\nNobody had the slot.\n"
+      ++ bytes "Client 2 sent packet 7 of 100 bytes with 0 bytes of padding, drawn at target 33 of a rate sum of 1024.\n"
+      ++ bytes "Client 2 sent a dummy packet, drawn at target 289 of a rate sum of 300.\nNobody had the slot.\n"
+  pub tenant : printoutFor (Tenant 2) changing
+      ≡ bytes "(refused 19)\n(refused 5)\n(refused 11)\n(refused 11)\n"
+      ++ bytes "Client 2 sent a dummy packet, drawn at target 289 of a rate sum of 300.\n(refused 5)\n"
+  pub noClient : printoutFor (Tenant 64) changing
+      ≡ bytes "(refused 19)\n(refused 4)\n(refused 4)\n(refused 4)\n(refused 4)\n(refused 4)\n"
 
 -- Why the texts have at most 60,000 bytes: a longer one may keep the same calls, and prints 18 alone.
 abbrev pub tooLong : List ℕ

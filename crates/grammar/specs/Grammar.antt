@@ -12,24 +12,23 @@ use Rattle.definitions.specs.Sizes.{handleLimit, indifferentKind, privateKind}
 use Rattle.grammar.specs.declared.Line.{Line}
 use Rattle.grammar.specs.declared.Line.the-variants.{Form, Refused}
 use Rattle.grammar.specs.Bytes.{bytes}
-use Rattle.grammar.specs.Templates.{limitsIn, numbersFit, matched}
+use Rattle.grammar.specs.Templates.{limitsIn, numbersFit, matched, Phrase}
 
 -- a form of the grammar: how it is written, and the call that its numbers make
-pub record Rule : Type 0 where
-  pub template : List ℕ
-  pub call : List ℕ → Call
+abbrev pub Rule : Type 0
+Rule = Phrase Call
 
 -- the n-th number of a form
 abbrev pub nth : List ℕ → ℕ → ℕ
 nth numbers n = getD numbers n 0
 
 abbrev pub rule : String → (List ℕ → Call) → Rule
-rule template call = record { template = bytes template; call = call }
+rule template call = record { template = bytes template; makes = call }
 
 -- the same forms behind a text
 abbrev pub behindText : List ℕ → List Rule → List Rule
 behindText text [] = []
-behindText text (r ∷ rs) = record { template = text ++ r .template; call = r .call } ∷ behindText text rs
+behindText text (r ∷ rs) = record { template = text ++ r .template; makes = r .makes } ∷ behindText text rs
 
 unfoldable pub openForms : List Rule
 openForms = rule "(open # # #)" (λ n. Open (nth n 0) (nth n 1) (nth n 2)) ∷ []
@@ -71,7 +70,7 @@ module _ (handles : ℕ) where
   -- "right shape, but a number above 4294967295"; "Number 17 uses that limit for handles and the former one elsewhere" (paper 02,
   -- S-6)
   unfoldable pub sizedIn : Rule → List ℕ → Line
-  sizedIn r numbers = cond (numbersFit (limitsIn handles (r .template)) numbers) (Form (r .call numbers)) (Refused 17)
+  sizedIn r numbers = cond (numbersFit (limitsIn handles (r .template)) numbers) (Form (r .makes numbers)) (Refused 17)
 
   -- shape is judged before size: the first rule that fits decides, and "not a form of the grammar" is 16
   abbrev pub orElseIn : Rule → Option (List ℕ) → Line → Line

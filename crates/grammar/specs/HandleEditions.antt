@@ -11,6 +11,8 @@ use lib.Dec.{eqb, ltb}
 use Rattle.definitions.specs.State.{Core, unopened}
 use Rattle.definitions.specs.declared.Answer.the-variants.{Refused}
 use Rattle.grammar.specs.declared.Line.the-variants.{Refused as Unread}
+use Rattle.grammar.specs.declared.Audience.{Audience}
+use Rattle.grammar.specs.declared.Audience.the-variants.{Caller}
 use Rattle.grammar.specs.Bytes.{lineFeed, Unbroken}
 use Rattle.grammar.specs.Templates.{matched}
 use Rattle.grammar.specs.Grammar.{nth, arrival, parsedIn}
@@ -38,17 +40,18 @@ pub record HandleEditions : Type 0 where
   -- a line without a longer handle is read the same in both
   pub sameLine : (older newer : ℕ) → older ≤ newer → (line : List ℕ) → longer older line ≡ false
       → parsedIn older line ≡ parsedIn newer line
-  -- a text without one prints the same
-  pub samePrintout : (older newer : ℕ) → older ≤ newer → (text : List ℕ) → longerFrom older [] text ≡ false
-      → printoutIn older text ≡ printoutIn newer text
+  -- a text without one prints the same, for whomever
+  pub samePrintout : (older newer : ℕ) → older ≤ newer → (to : Audience) (text : List ℕ) → longerFrom older [] text ≡ false
+      → printoutIn older to text ≡ printoutIn newer to text
   -- and leaves the same core
   pub sameCore : (older newer : ℕ) → older ≤ newer → (text : List ℕ) → longerFrom older [] text ≡ false
       → coreFromIn older unopened [] text ≡ coreFromIn newer unopened [] text
   -- a line with a longer handle is 17
   pub longLine : (limit : ℕ) (line : List ℕ) → longer limit line ≡ true → parsedIn limit line ≡ Unread 17
-  -- So where such a line, closed by its line feed, comes up in what is left of a text, 17 is printed, and the text goes on with the
-  -- core as it was.
+  -- So where such a line, closed by its line feed, comes up in what is left of a text, 17 is printed for the caller, and the text goes
+  -- on with the core as it was.
   pub longPrinted : (limit : ℕ) (core : Core) (line text : List ℕ) → Unbroken line → longer limit line ≡ true
-      → printedFromIn limit core [] (line ++ lineFeed ∷ text) ≡ printed (Refused 17) ++ printedFromIn limit core [] text
+      → printedFromIn limit Caller core [] (line ++ lineFeed ∷ text)
+      ≡ printed (Refused 17) ++ printedFromIn limit Caller core [] text
   pub longPassed : (limit : ℕ) (core : Core) (line text : List ℕ) → Unbroken line → longer limit line ≡ true
       → coreFromIn limit core [] (line ++ lineFeed ∷ text) ≡ coreFromIn limit core [] text

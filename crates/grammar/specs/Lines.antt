@@ -6,14 +6,15 @@ use mathlib.Core.Bool.{true, false, cond}
 use mathlib.Core.List.{List, [], _∷_, _++_}
 use lib.Dec.{eqb}
 use lib.ListN.{length}
-use Rattle.definitions.specs.declared.Answer.the-variants.{Refused}
-use Rattle.definitions.specs.History.{History, start, _then_, scheduler, answerAt}
+use Rattle.definitions.specs.History.{History, start, _then_, scheduler, after}
 use Rattle.grammar.specs.declared.Line.{Line}
 use Rattle.grammar.specs.declared.Line.the-variants.{Form, Refused as Unread}
+use Rattle.grammar.specs.declared.Audience.{Audience}
+use Rattle.grammar.specs.declared.Audience.the-variants.{Caller}
 use Rattle.grammar.specs.Bytes.{lineFeed, textLimit}
 use Rattle.grammar.specs.Calls.{eventOf}
 use Rattle.grammar.specs.Grammar.{parsed}
-use Rattle.grammar.specs.Printout.{printed, printout}
+use Rattle.grammar.specs.Printout.{shown, printout}
 
 -- a byte at the front of the first of some lines
 abbrev pub atFront : ℕ → List (List ℕ) → List (List ℕ)
@@ -46,15 +47,11 @@ toldFrom h (line ∷ rest) = toldFrom (heard h (held line)) rest
 abbrev pub told : List (List ℕ) → History
 told text = toldFrom start text
 
--- what a line prints behind a history, and what lines print
-unfoldable pub printedLine : History → Line → List ℕ
-printedLine h (Form call) = printed (answerAt scheduler h (eventOf call))
-printedLine h (Unread n) = printed (Refused n)
-
-unfoldable pub printedLines : History → List (List ℕ) → List (List ℕ)
-printedLines h [] = []
-printedLines h (line ∷ rest) = printedLine h (held line) ∷ printedLines (heard h (held line)) rest
+-- what lines print behind a history, each by what it holds
+unfoldable pub printedLines : Audience → History → List (List ℕ) → List (List ℕ)
+printedLines to h [] = []
+printedLines to h (line ∷ rest) = shown to (after scheduler h) (held line) ∷ printedLines to (heard h (held line)) rest
 
 -- the printout of a text of at most 60,000 bytes has one line for each line of it, and that line is what this one prints there
 unfoldable pub LinesPrinted : Type 0
-LinesPrinted = (text : List ℕ) → length text ≤ textLimit → lines (printout text) ≡ printedLines start (lines text)
+LinesPrinted = (text : List ℕ) → length text ≤ textLimit → lines (printout text) ≡ printedLines Caller start (lines text)

@@ -25,7 +25,7 @@ RoundTrip =
     → (numbers : List ℕ)
     → Takes r numbers
     → numbersFit (limitsIn handles (r .template)) numbers ≡ true
-    → parsedIn handles (written r numbers) ≡ Form (r .call numbers)
+    → parsedIn handles (written r numbers) ≡ Form (r .makes numbers)
 
 unfoldable pub TooLarge : Type 0
 TooLarge =

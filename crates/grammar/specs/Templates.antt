@@ -59,3 +59,8 @@ matched (b ∷ bs) (x ∷ xs) =
       ]
       | false ↦ elim (eqb b x) [ true ↦ matched bs xs | false ↦ none ]
     ]
+
+-- a phrase: how it is written, and what its numbers make
+pub record Phrase (A : Type 0) : Type 0 where
+  pub template : List ℕ
+  pub makes : List ℕ → A

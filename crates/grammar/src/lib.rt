@@ -1,4 +1,4 @@
-// What a line of the script holds. The grammar and the printout stand in specs/.
+// What a line of the script holds, and for whom a text is printed. The grammar and the printout stand in specs/.
 use definitions::Packet;
 
 // The longest text that is read. For the proofs it stands in specs/Bytes.antt, and where the two disagree a proof fails.
@@ -41,4 +41,12 @@ pub enum Call {
 pub enum Line {
     Form { call: Call },
     Refused { number: u32 },
+}
+
+// For whom a text is printed: for the caller, who is given the answer to each line; or for the operator, or a private tenant, who
+// are told of each tick.
+pub enum Audience {
+    Caller,
+    Operator,
+    Tenant { id: u32 },
 }

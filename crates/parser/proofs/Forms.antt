@@ -49,7 +49,7 @@ module _ {template line : List ℕ} {refused : ℕ} {numbers : List ℕ} (read :
 
 module _ (r : Rule) (rs : List Rule) (line : List ℕ) {refused : ℕ} {numbers : List ℕ}
     (read : Reads (r .template) line refused numbers) where
-  pub rule-fits : refused ≡ 0 → parsedBy (r ∷ rs) line ≡ Form (r .call (take (gaps (r .template)) numbers))
+  pub rule-fits : refused ≡ 0 → parsedBy (r ∷ rs) line ≡ Form (r .makes (take (gaps (r .template)) numbers))
   unfolding parsedByIn sizedIn
   rule-fits e = rw (read .places e, read-fits read e)
 
@@ -64,7 +64,7 @@ module _ (r : Rule) (rs : List Rule) (line : List ℕ) {refused : ℕ} {numbers 
       go (some ns) q = size (numbersFit (limits (r .template)) ns) q
         where
           size : (b : Bool) → refused ≡ cond b 0 17
-              → cond b (Form (r .call ns)) (Refused 17) ≡ cond (eqb (cond b 0 17) 17) (Refused 17) (parsedBy rs line)
+              → cond b (Form (r .makes ns)) (Refused 17) ≡ cond (eqb (cond b 0 17) 17) (Refused 17) (parsedBy rs line)
           size true q = absurd (ne q)
           size false q = refl
 
@@ -84,7 +84,7 @@ only-refused r line {refused} read ne = go (matched (r .template) line) (read .a
     go none q = ap Refused (sym q)
     go (some ns) q = size (numbersFit (limits (r .template)) ns) q
       where
-        size : (b : Bool) → refused ≡ cond b 0 17 → cond b (Form (r .call ns)) (Refused 17) ≡ Refused refused
+        size : (b : Bool) → refused ≡ cond b 0 17 → cond b (Form (r .makes ns)) (Refused 17) ≡ Refused refused
         size true q = absurd (ne q)
         size false q = ap Refused (sym q)
 
@@ -100,7 +100,7 @@ unfolding parsedByIn
 rule-missed r rs line e = rw e
 
 pub rule-bare : (r : Rule) (rs : List Rule) (line : List ℕ) → matched (r .template) line ≡ some [] → limits (r .template) ≡ []
-    → parsedBy (r ∷ rs) line ≡ Form (r .call [])
+    → parsedBy (r ∷ rs) line ≡ Form (r .makes [])
 unfolding parsedByIn sizedIn numbersFit
 rule-bare r rs line e bare = rw (e, bare)
 

@@ -122,7 +122,7 @@ module _ (text : List ℕ) (line : List ℕ) (bare : plain text ≡ true) where
       (go (matched (r .template) (drop (length text) line)) (forms-behind rs e))
     where
       go : (found : Option (List ℕ)) {x y : Line} → x ≡ y
-          → orElse (record { template = text ++ r .template; call = r .call }) found x ≡ orElse r found y
+          → orElse (record { template = text ++ r .template; makes = r .makes }) found x ≡ orElse r found y
       go none same = same
       go (some ns) same = rw (limits-behind text (r .template) bare)
 

@@ -1,5 +1,5 @@
 -- How long a template is when it is filled: no longer than its bytes and the digits of its numbers. So the line of a slot has room:
--- 32 bits have at most ten digits, and the 64 of a handle at most twenty. Assumes nothing.
+-- 32 bits have at most ten digits, and the 64 of a handle or a sum at most twenty. Assumes nothing.
 use Prim.Native.Nat.{ℕ, suc, _+_, _^_, _≤_, _<_}
 use native.Mathlib.Omega.{arith}
 use mathlib.Core.Path.{_≡_, refl}
@@ -15,7 +15,8 @@ use Rattle.grammar.specs.Templates.{isGap, filled}
 use Rattle.grammar.specs.Printout.{printed}
 use Rattle.grammar.proofs.Decimals.{decimal-length}
 use Rattle.grammar.proofs.ReadBack.{filled-byte, filled-gap}
-use Rattle.printer.specs.Printed.{lineRoom}
+use Rattle.grammar.specs.Sentences.{outcomeText, drawnText}
+use Rattle.printer.specs.Printed.{outcomeRoom, reasonRoom, lineRoom}
 
 pub ten-digits : (n : ℕ) → n < 2 ^ 32 → length (decimal n) ≤ 10
 ten-digits n small = decimal-length 9 n (omega arith)
@@ -41,9 +42,9 @@ filled-length (b ∷ bs) (n ∷ ns) = go (isGap b) refl (filled-length bs ns) (f
     go true g taken kept = rw (filled-gap b bs n ns g) (simp length-append (omega arith))
     go false g taken kept = rw (filled-byte b bs (n ∷ ns) g) (omega arith)
 
--- so a filled template has at most the room of a line, where that holds it and the digits
-module _ (template numbers : List ℕ) (short : length template + digitCount numbers ≤ lineRoom) where
-  pub filled-room : (at : ℕ) {size : ℕ} → at + lineRoom ≤ size → at + length (filled template numbers) ≤ size
+-- so a filled template has at most some room, where that holds it and the digits
+module _ (template numbers : List ℕ) {most : ℕ} (short : length template + digitCount numbers ≤ most) where
+  pub filled-room : (at : ℕ) {size : ℕ} → at + most ≤ size → at + length (filled template numbers) ≤ size
   filled-room at room = omega (arith, filled-length template numbers)
 
 -- an outcome of the code's widths
@@ -63,3 +64,21 @@ slot-room (Real id packet padding) narrow at room =
 slot-room (Dummy id) narrow at room = filled-room _ _ (omega (arith, ten-digits id narrow)) at room
 slot-room (Idle id) narrow at room = filled-room _ _ (omega (arith, ten-digits id narrow)) at room
 slot-room None narrow at room = filled-room _ _ (omega arith) at room
+
+-- and so have the words of an outcome, in theirs
+pub outcome-room : (outcome : Outcome) → Narrow outcome → (at : ℕ) {size : ℕ} → at + outcomeRoom ≤ size
+    → at + length (outcomeText outcome) ≤ size
+unfolding outcomeText values
+outcome-room (Real id packet padding) narrow at room =
+    filled-room _ _
+    (omega (arith, ten-digits id (narrow .0), twenty-digits _ (narrow .1), ten-digits _ (narrow .2), ten-digits padding (narrow .3))) at room
+outcome-room (Dummy id) narrow at room = filled-room _ _ (omega (arith, ten-digits id narrow)) at room
+outcome-room (Idle id) narrow at room = filled-room _ _ (omega (arith, ten-digits id narrow)) at room
+outcome-room None narrow at room = filled-room _ _ (omega arith) at room
+
+-- and those of a draw
+pub drawn-room : (target sum : ℕ) → target < 2 ^ 32 → sum < 2 ^ 64 → (at : ℕ) {size : ℕ} → at + reasonRoom ≤ size
+    → at + length (drawnText target sum) ≤ size
+unfolding drawnText
+drawn-room target sum low wide at room =
+    filled-room _ _ (omega (arith, ten-digits target low, twenty-digits sum wide)) at room

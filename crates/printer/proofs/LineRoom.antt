@@ -2,7 +2,7 @@
 -- nothing.
 use Prim.Native.Nat.{ℕ, _+_, _≤_}
 use native.Mathlib.Omega.{arith}
-use mathlib.Core.Path.{_≡_, refl, sym, _∙_}
+use mathlib.Core.Path.{_≡_, refl, sym, subst, _∙_}
 use mathlib.Core.Bool.{Bool, true, false, not}
 use mathlib.Core.List.{List}
 use lib.Dec.{leb}
@@ -25,3 +25,9 @@ module _ (before : List ℕ) (at : ℕ) {test : Bool} (asked : test ≡ leb (at 
   wrote left a =
       let room = roomy left in
       record { written = λ fits. a; untouched = λ little. absurd (omega arith) }
+
+-- a line that was written is one that it equals
+pub line-as : {line other before : List ℕ} {at : ℕ} {after : List ℕ} {end : ℕ} → line ≡ other
+    → LineWritten line before at after end
+    → LineWritten other before at after end
+line-as {before = before} {at} {after} {end} e w = subst (λ (l : List ℕ). LineWritten l before at after end) e w

@@ -4,16 +4,23 @@ use Prim.Native.Nat.{ℕ, _+_, _-_, _≤_, _<_}
 use mathlib.Core.Path.{_≡_}
 use mathlib.Core.List.{List, _++_}
 use lib.ListN.{length}
+use Rattle.definitions.specs.declared.Packet.{Packet}
 use Rattle.definitions.specs.declared.Answer.{Answer}
 use Rattle.grammar.specs.Bytes.{bytes}
 use Rattle.grammar.specs.Numerals.{decimal}
 use Rattle.grammar.specs.Printout.{printed}
 use Rattle.printer.specs.Appended.{Appended}
 
--- The room of a line. The longest is a slot's with a packet: a template of 22 bytes, three numbers of ten digits, and a handle of
--- twenty.
+-- The room of a line. The longest is the sentence of a packet that was drawn: of its outcome 57 bytes of words, three numbers of ten
+-- digits and a handle of twenty, and of its draw 40 bytes, a target of ten digits and a sum of twenty.
+abbrev pub outcomeRoom : ℕ
+outcomeRoom = 112
+
+abbrev pub reasonRoom : ℕ
+reasonRoom = 80
+
 abbrev pub lineRoom : ℕ
-lineRoom = 72
+lineRoom = outcomeRoom + reasonRoom
 
 pub record LineWritten (line before : List ℕ) (at : ℕ) (after : List ℕ) (end : ℕ) : Type 0 where
   pub written : at + lineRoom ≤ length before → Appended line before at after end
@@ -22,6 +29,12 @@ pub record LineWritten (line before : List ℕ) (at : ℕ) (after : List ℕ) (e
 -- the line of an answer
 abbrev pub Printed : Answer → List ℕ → ℕ → List ℕ → ℕ → Type 0
 Printed answer = LineWritten (printed answer)
+
+-- the fields of a packet that was sent, with texts before and between them, and behind the last
+abbrev pub fieldsText : List ℕ → List ℕ → List ℕ → List ℕ → List ℕ → ℕ → Packet → ℕ → List ℕ
+fieldsText first second third fourth last id packet padding =
+    (first ++ decimal id)
+    ++ ((second ++ decimal (packet .handle)) ++ ((third ++ decimal (packet .length)) ++ ((fourth ++ decimal padding) ++ last)))
 
 -- the line of a text and two numbers: "one blank between" them
 abbrev pub pairLine : List ℕ → ℕ → ℕ → List ℕ

@@ -1,8 +1,10 @@
-// Prints answers (paper 01, "Script and printout"), the figure of a forecast and fair rates: each as a line of text, into bytes
-// that are lent, from a place on.
+// Prints answers (paper 01, "Script and printout"), the sentences of a sheet, the figure of a forecast and fair rates: each as a line of
+// text, into bytes that are lent, from a place on.
 use definitions::Answer;
+use definitions::Note;
 use definitions::Outcome;
 use definitions::Packet;
+use definitions::Reason;
 ghost use Prim.Native.Nat.{_+_, _/_, _%_, _≤_, _<_};
 ghost use mathlib.Core.Path.{_≡_};
 ghost use mathlib.Core.List.{[], _∷_, _++_};
@@ -10,13 +12,14 @@ ghost use lib.Dec.{leb};
 ghost use lib.ListN.{length};
 ghost use Rattle.grammar.specs.Numerals.{decimal};
 ghost use Rattle.grammar.specs.Printout.{printed};
+ghost use Rattle.grammar.specs.Sentences.{outcomeText, drawnText, reasonText, sentence};
 ghost use Rattle.grammar.specs.Forecast.{sureLine};
 ghost use Rattle.grammar.specs.FairSheet.{rateLine};
 ghost use Rattle.printer.specs.Appended.{Appended};
-ghost use Rattle.printer.specs.Printed.{lineRoom, LineWritten, Printed, wordRoom, pairLine};
+ghost use Rattle.printer.specs.Printed.{outcomeRoom, reasonRoom, lineRoom, LineWritten, Printed, fieldsText, wordRoom, pairLine};
 
-// The room that a line is given. No line of numbers of 32 bits and a handle of 64 is longer.
-pub const LINE_ROOM: usize = 72;
+// The room that a line is given. No line is longer, whatever its numbers.
+pub const LINE_ROOM: usize = 192;
 
 const ZERO: u64 = 48;
 
@@ -100,16 +103,28 @@ fn put_between(out: &mut [u8], at: usize, before: &[u8], n: u32, behind: &[u8]) 
     put(out, end, behind)
 }
 
-// Writes the line of a slot with a packet.
-fn put_real(out: &mut [u8], at: usize, id: u32, packet: Packet, padding: u32) -> usize
-    requires { ⌜ at + length (printed (Answer.Slot (Outcome.Real id packet padding))) ≤ length (now out) ⌝ }
-    ensures { λ r. ⌜ Appended (printed (Answer.Slot (Outcome.Real id packet padding)))
-        (now (out .entry)) at (now (out .exit)) r ⌝ }
+// Writes the fields of a packet that was sent, each between two texts.
+fn put_fields(
+    out: &mut [u8],
+    at: usize,
+    first: &[u8],
+    second: &[u8],
+    third: &[u8],
+    fourth: &[u8],
+    last: &[u8],
+    id: u32,
+    packet: Packet,
+    padding: u32,
+) -> usize
+    requires { ⌜ at + length (fieldsText (now first) (now second) (now third) (now fourth) (now last) id packet padding)
+        ≤ length (now out) ⌝ }
+    ensures { λ r. ⌜ Appended (fieldsText (now (first .entry)) (now (second .entry)) (now (third .entry)) (now (fourth .entry))
+        (now (last .entry)) id packet padding) (now (out .entry)) at (now (out .exit)) r ⌝ }
 {
-    let id_end = put_number(out, at, b"(slot (real ", id as u64);
-    let handle_end = put_number(out, id_end, b" ", packet.handle);
-    let length_end = put_number(out, handle_end, b" ", packet.length as u64);
-    put_between(out, length_end, b" ", padding, b"))\n")
+    let id_end = put_number(out, at, first, id as u64);
+    let handle_end = put_number(out, id_end, second, packet.handle);
+    let length_end = put_number(out, handle_end, third, packet.length as u64);
+    put_between(out, length_end, fourth, padding, last)
 }
 
 // Writes the line of a slot.
@@ -122,7 +137,18 @@ fn put_slot(out: &mut [u8], at: usize, outcome: Outcome) -> usize
             id,
             packet,
             padding,
-        } => put_real(out, at, id, packet, padding),
+        } => put_fields(
+            out,
+            at,
+            b"(slot (real ",
+            b" ",
+            b" ",
+            b" ",
+            b"))\n",
+            id,
+            packet,
+            padding,
+        ),
         Outcome::Dummy { id } => put_between(out, at, b"(slot (dummy ", id, b"))\n"),
         Outcome::Idle { id } => put_between(out, at, b"(slot (idle ", id, b"))\n"),
         Outcome::None => put(out, at, b"(slot (none))\n"),
@@ -177,4 +203,88 @@ pub fn print_rate(out: &mut [u8], at: usize, id: u32, rate: u32) -> usize
     ensures { λ r. ⌜ LineWritten (rateLine id rate) (now (out .entry)) at (now (out .exit)) r ⌝ }
 {
     print_pair(out, at, b"(rate ", id, rate)
+}
+
+// Writes the words of an outcome.
+fn put_outcome(out: &mut [u8], at: usize, outcome: Outcome) -> usize
+    requires { ⌜ at + outcomeRoom ≤ length (now out) ⌝ }
+    ensures { λ r. ⌜ Appended (outcomeText outcome) (now (out .entry)) at (now (out .exit)) r × (r ≤ at + outcomeRoom) ⌝ }
+{
+    match outcome {
+        Outcome::Real {
+            id,
+            packet,
+            padding,
+        } => put_fields(
+            out,
+            at,
+            b"Client ",
+            b" sent packet ",
+            b" of ",
+            b" bytes with ",
+            b" bytes of padding",
+            id,
+            packet,
+            padding,
+        ),
+        Outcome::Dummy { id } => put_between(out, at, b"Client ", id, b" sent a dummy packet"),
+        Outcome::Idle { id } => put_between(out, at, b"Client ", id, b" had nothing to send"),
+        Outcome::None => put(out, at, b"Nobody had the slot"),
+    }
+}
+
+// Writes the words of a slot that was not drawn.
+fn put_undrawn(out: &mut [u8], at: usize, outcome: Outcome) -> usize
+    requires { ⌜ at + reasonRoom ≤ length (now out) ⌝ }
+    ensures { λ r. ⌜ Appended (reasonText outcome Reason.Undrawn) (now (out .entry)) at (now (out .exit)) r ⌝ }
+{
+    if let Outcome::None = outcome {
+        return put(out, at, b".\n");
+    }
+    put(out, at, b", first come first served.\n")
+}
+
+// Writes the words of a draw.
+fn put_drawn(out: &mut [u8], at: usize, target: u32, sum: u64) -> usize
+    requires { ⌜ at + reasonRoom ≤ length (now out) ⌝ }
+    ensures { λ r. ⌜ Appended (drawnText target sum) (now (out .entry)) at (now (out .exit)) r ⌝ }
+{
+    let target_end = put_number(out, at, b", drawn at target ", target as u64);
+    let sum_end = put_number(out, target_end, b" of a rate sum of ", sum);
+    put(out, sum_end, b".\n")
+}
+
+// Writes the words of a reason.
+fn put_reason(out: &mut [u8], at: usize, outcome: Outcome, reason: Reason) -> usize
+    requires { ⌜ at + reasonRoom ≤ length (now out) ⌝ }
+    ensures { λ r. ⌜ Appended (reasonText outcome reason) (now (out .entry)) at (now (out .exit)) r ⌝ }
+{
+    match reason {
+        Reason::Undrawn => put_undrawn(out, at, outcome),
+        Reason::Drawn { target, sum } => put_drawn(out, at, target, sum),
+    }
+}
+
+// Writes the sentence of a slot.
+fn put_told(out: &mut [u8], at: usize, outcome: Outcome, reason: Reason) -> usize
+    requires { ⌜ at + lineRoom ≤ length (now out) ⌝ }
+    ensures { λ r. ⌜ Appended (sentence (Note.Told outcome reason)) (now (out .entry)) at (now (out .exit)) r ⌝ }
+{
+    let end = put_outcome(out, at, outcome);
+    put_reason(out, end, outcome, reason)
+}
+
+// Writes the sentence of a note from a place on; places and room are those of `print_refused`.
+pub fn print_note(out: &mut [u8], at: usize, note: Note) -> usize
+    ensures { λ r. ⌜ LineWritten (sentence note) (now (out .entry)) at (now (out .exit)) r ⌝ }
+{
+    if !has_room(out.len(), at) {
+        return at;
+    }
+    match note {
+        Note::Refusal { number } => print_refused(out, at, number),
+        Note::Told { outcome, reason } => put_told(out, at, outcome, reason),
+        Note::ToIndifferent => put(out, at, b"The slot went to an indifferent client.\n"),
+        Note::ToAnother => put(out, at, b"The slot went to another private client.\n"),
+    }
 }

@@ -1,3 +1,4 @@
+pub mod LineShown
 pub mod LinePrinted
 pub mod LineWalked
 pub mod GoingOn

@@ -1,25 +1,26 @@
--- What the first line ahead prints: its answer, and behind it what is ahead then; and the core behind it. Assumes nothing.
+-- What the first line ahead prints, and behind it what is ahead then; and the core behind it. Assumes nothing.
 use Prim.Native.Nat.{ℕ, suc, _+_, _-_, _≤_, _<_}
 use mathlib.Core.Path.{_≡_, sym, ap, _∙_}
 use mathlib.Core.List.{List, [], _∷_, _++_, append-assoc, append-nil}
 use native.Mathlib.Omega.{arith}
 use lib.ListN.{length, getD, take, drop, length-drop, drop-of-length-le}
 use lib.Seq.{drop-cons, take-all, take-nil}
-use Rattle.definitions.specs.declared.Answer.the-variants.{Refused}
 use Rattle.definitions.specs.Sizes.{handleLimit}
 use Rattle.definitions.specs.State.{Core}
+use Rattle.grammar.specs.declared.Line.the-variants.{Refused as Unread}
+use Rattle.grammar.specs.declared.Audience.{Audience}
 use Rattle.grammar.specs.Bytes.{lineFeed, Unbroken}
 use Rattle.grammar.specs.Grammar.{parsed}
-use Rattle.grammar.specs.Printout.{printed, answered, printedFrom, printedFromIn, coreFrom, coreFromIn}
+use Rattle.grammar.specs.Printout.{answered, shown, printedFrom, printedFromIn, coreFrom, coreFromIn}
 use Rattle.grammar.proofs.Lines.{line-closed, line-open, core-closed, core-open}
 use Rattle.reader.specs.LineSpans.{between}
 use Rattle.reader.proofs.LinesAhead.{split-closed, between-closed}
 use Rattle.script.specs.Pieces.{ahead, coreBehind}
 
 -- nothing is ahead behind the last byte
-pub ahead-none : (core : Core) (text : List ℕ) (at : ℕ) → length text ≤ at → ahead core text at ≡ []
+pub ahead-none : (to : Audience) (core : Core) (text : List ℕ) (at : ℕ) → length text ≤ at → ahead to core text at ≡ []
 unfolding printedFromIn
-ahead-none core text at past = ap (printedFrom core []) (drop-of-length-le text past)
+ahead-none to core text at past = ap (printedFrom to core []) (drop-of-length-le text past)
 
 -- and up to the place itself no byte is passed
 pub core-here : (core : Core) (text : List ℕ) (at : ℕ) → coreBehind core text at at ≡ core
@@ -49,31 +50,31 @@ open-core core text at inside whole upto past =
     core-past core text (length text) upto (omega arith)
     ∙ sym (ap (coreFrom core []) all ∙ core-open handleLimit core (drop at text) whole)
 
-module _ (core : Core) (text : List ℕ) (at : ℕ) (before after : List ℕ) where
+module _ (to : Audience) (core : Core) (text : List ℕ) (at : ℕ) (before after : List ℕ) where
   -- a line that a line feed closes
   module _ (end : ℕ) (forth : at ≤ end) where
     pub closed-printed : end < length text
         → getD text end 0 ≡ lineFeed
         → Unbroken (between text at end)
-        → after ≡ before ++ printed (answered core (parsed (between text at end)) .answer)
-        → after ++ ahead (answered core (parsed (between text at end)) .core) text (suc end) ≡ before ++ ahead core text at
+        → after ≡ before ++ shown to core (parsed (between text at end))
+        → after ++ ahead to (answered core (parsed (between text at end)) .core) text (suc end) ≡ before ++ ahead to core text at
     closed-printed inside feed whole wrote =
         let line = between text at end in
         let split = split-closed text at end forth inside feed in
-        let first = ap (printedFrom core []) split ∙ line-closed handleLimit core line (drop (suc end) text) whole in
-        ap (λ (l : List ℕ). l ++ ahead (answered core (parsed line) .core) text (suc end)) wrote
+        let first = ap (printedFrom to core []) split ∙ line-closed handleLimit to core line (drop (suc end) text) whole in
+        ap (λ (l : List ℕ). l ++ ahead to (answered core (parsed line) .core) text (suc end)) wrote
         ∙ append-assoc before _ _
         ∙ ap (λ (l : List ℕ). before ++ l) (sym first)
 
   -- bytes that no line feed closes
   pub open-printed : at < length text
       → Unbroken (drop at text)
-      → after ≡ before ++ printed (Refused 16)
-      → after ++ ahead core text (length text) ≡ before ++ ahead core text at
+      → after ≡ before ++ shown to core (Unread 16)
+      → after ++ ahead to core text (length text) ≡ before ++ ahead to core text at
   open-printed inside whole wrote =
       let bytes : drop at text ≡ getD text at 0 ∷ drop (suc at) text = drop-cons text at 0 inside in
-      let last = ap (printedFrom core []) bytes ∙ line-open handleLimit core (getD text at 0) (drop (suc at) text) (rw bytes at whole) in
-      ap (λ (l : List ℕ). after ++ l) (ahead-none core text (length text) (omega arith))
+      let last = ap (printedFrom to core []) bytes ∙ line-open handleLimit to core (getD text at 0) (drop (suc at) text) (rw bytes at whole) in
+      ap (λ (l : List ℕ). after ++ l) (ahead-none to core text (length text) (omega arith))
       ∙ append-nil after
       ∙ wrote
       ∙ ap (λ (l : List ℕ). before ++ l) (sym last)

@@ -6,32 +6,32 @@ use mathlib.Core.List.{List, _++_}
 use native.Mathlib.Omega.{arith}
 use lib.ListN.{length, take, drop, length-drop}
 use lib.Seq.{take-all}
-use Rattle.grammar.specs.Calls.{eventOf}
 use Rattle.grammar.specs.declared.Call.{Call}
-use Rattle.definitions.specs.declared.Answer.{Answer}
 use Rattle.definitions.specs.declared.Answer.the-variants.{Refused}
 use Rattle.definitions.specs.State.{Core}
 use Rattle.grammar.specs.declared.Line.{Line}
 use Rattle.grammar.specs.declared.Line.the-variants.{Form, Refused as Unread}
+use Rattle.grammar.specs.declared.Audience.{Audience}
 use Rattle.grammar.specs.Bytes.{Unbroken}
 use Rattle.grammar.specs.Grammar.{parsed}
-use Rattle.grammar.specs.Printout.{printed, answered}
+use Rattle.grammar.specs.Printout.{answered, shown}
 use Rattle.printer.specs.Appended.{Appended}
-use Rattle.printer.specs.Printed.{lineRoom, LineWritten, Printed}
+use Rattle.printer.specs.Printed.{lineRoom, LineWritten}
 use Rattle.printer.proofs.Appending.{appended-front, appended-length}
 use Rattle.tables.specs.declared.Control.{Control}
-use Rattle.tables.specs.declared.Answered.{Answered}
 use Rattle.tables.specs.Tables.{Tables}
 use Rattle.tables.specs.Meaning.{coreOf}
 use Rattle.tables.specs.Invariant.{Valid}
-use Rattle.tables.specs.Promise.{Meets}
 use Rattle.reader.specs.declared.Span.{Span}
 use Rattle.reader.specs.LineSpans.{between, spanAt, LineEnd}
 use Rattle.reader.proofs.LineEnds.{span-end, span-feed, span-last}
+use Rattle.script.specs.declared.Shown.{Shown}
+use Rattle.script.specs.Shown.{answerFor, CallShown}
 use Rattle.script.specs.Pieces.{ahead, coreBehind, Walked}
+use Rattle.script.proofs.LineShown.{unread-shown}
 use Rattle.script.proofs.LinePrinted.{closed-printed, closed-core, open-printed, open-core}
 
-module _ (text : List ℕ) (at : ℕ) (out : List ℕ) (written : ℕ) (c : Control) (t : Tables)
+module _ (to : Audience) (text : List ℕ) (at : ℕ) (out : List ℕ) (written : ℕ) (c : Control) (t : Tables)
     (inside : at < length text) (room : written + lineRoom ≤ length out) (span : Span) (read : span ≡ spanAt text at) where
   abbrev end : ℕ
   end = span .end
@@ -39,7 +39,7 @@ module _ (text : List ℕ) (at : ℕ) (out : List ℕ) (written : ℕ) (c : Cont
   -- where a line leads to
   abbrev Further : List ℕ → ℕ → Control → Tables → Type 0
   Further new more d u =
-      Walked text at c t (take written out) new (record { control = d; next = span .next; written = more }) u × (at < span .next)
+      Walked to text at c t (take written out) new (record { control = d; next = span .next; written = more }) u × (at < span .next)
 
   l : LineEnd text at end
   l = span-end text at span read (omega arith)
@@ -49,14 +49,14 @@ module _ (text : List ℕ) (at : ℕ) (out : List ℕ) (written : ℕ) (c : Cont
 
   further : {line new : List ℕ} {more : ℕ} → LineWritten line out written new more
       → (d : Control) (u : Tables) (next : ℕ) → Valid d u → span .next ≡ next → at < next → next ≤ length text
-      → take more new ++ ahead (coreOf d u) text next ≡ take written out ++ ahead (coreOf c t) text at
+      → take more new ++ ahead to (coreOf d u) text next ≡ take written out ++ ahead to (coreOf c t) text at
       → ((upto : ℕ) → next ≤ upto → coreBehind (coreOf d u) text next upto ≡ coreBehind (coreOf c t) text at upto)
       → Further new more d u
   further {new = new} {more} p d u next valid e forth within printed core =
       let a = wrote p in
-      let goal = take written out ++ ahead (coreOf c t) text at in (
+      let goal = take written out ++ ahead to (coreOf c t) text at in (
         record {
-          printed = subst (λ (n : ℕ). take more new ++ ahead (coreOf d u) text n ≡ goal) (sym e) printed;
+          printed = subst (λ (n : ℕ). take more new ++ ahead to (coreOf d u) text n ≡ goal) (sym e) printed;
           fits = omega (arith, a .room, appended-length a);
           core = λ upto past.
               ap (λ (n : ℕ). coreBehind (coreOf d u) text n upto) e ∙ core upto (omega (arith, e, past));
@@ -68,31 +68,31 @@ module _ (text : List ℕ) (at : ℕ) (out : List ℕ) (written : ℕ) (c : Cont
       )
 
   -- bytes behind the last line feed
-  pub walked-open : {new : List ℕ} {more : ℕ} → Valid c t → end ≡ length text → Printed (Refused 16) out written new more
+  pub walked-open : {new : List ℕ} {more : ℕ} → Valid c t → end ≡ length text → LineWritten (answerFor to (Refused 16)) out written new more
       → Further new more c t
   walked-open {new} {more} valid e p =
       let whole = subst Unbroken (take-all (end - at) (drop at text) (omega (arith, length-drop at text, e))) (l .unbroken) in
       further p c t (length text) valid (span-last text at span read (omega arith) ∙ e) inside (omega arith)
-      (open-printed (coreOf c t) text at (take written out) (take more new) inside whole (appended-front (wrote p)))
+      (open-printed to (coreOf c t) text at (take written out) (take more new) inside whole
+      (appended-front (wrote p) ∙ ap (λ (x : List ℕ). take written out ++ x) (unread-shown to (coreOf c t) 16)))
       (open-core (coreOf c t) text at (omega arith) whole)
 
   module _ (feed : end < length text) where
     -- a closed line, by what it holds
-    closed : {new : List ℕ} {more : ℕ} (answer : Answer) → Printed answer out written new more
+    closed : {new : List ℕ} {more : ℕ} {given : List ℕ} → LineWritten given out written new more
         → (line : Line) → parsed (between text at end) ≡ line
         → (d : Control) (u : Tables) → Valid d u
-        → answer ≡ answered (coreOf c t) line .answer
+        → given ≡ shown to (coreOf c t) line
         → coreOf d u ≡ answered (coreOf c t) line .core
         → Further new more d u
-    closed {new} {more} given p line held d u valid answer core =
+    closed {new} {more} p line held d u valid shows core =
         let made = ap (λ (x : Line). answered (coreOf c t) x .core) held ∙ sym core in
         let next =
-        closed-printed (coreOf c t) text at (take written out) (take more new) end (l .forth) feed (l .closed feed) (l .unbroken)
+        closed-printed to (coreOf c t) text at (take written out) (take more new) end (l .forth) feed (l .closed feed) (l .unbroken)
         (appended-front (wrote p)
-        ∙ ap (λ (x : Answer). take written out ++ printed x)
-        (answer ∙ ap (λ (x : Line). answered (coreOf c t) x .answer) (sym held))) in
+        ∙ ap (λ (x : List ℕ). take written out ++ x) (shows ∙ ap (shown to (coreOf c t)) (sym held))) in
         further p d u (suc end) valid (span-feed text at span read feed) (omega (arith, l .forth)) feed
-        (subst (λ (x : Core). take more new ++ ahead x text (suc end) ≡ take written out ++ ahead (coreOf c t) text at)
+        (subst (λ (x : Core). take more new ++ ahead to x text (suc end) ≡ take written out ++ ahead to (coreOf c t) text at)
         made next)
         (λ upto past.
         ap (λ (x : Core). coreBehind x text (suc end) upto) (sym made)
@@ -100,15 +100,14 @@ module _ (text : List ℕ) (at : ℕ) (out : List ℕ) (written : ℕ) (c : Cont
 
     -- a line without a form
     pub walked-unread : {new : List ℕ} {more : ℕ} (n : ℕ) → Valid c t → parsed (between text at end) ≡ Unread n
-        → Printed (Refused n) out written new more
+        → LineWritten (answerFor to (Refused n)) out written new more
         → Further new more c t
     unfolding answered
-    walked-unread n valid held p = closed (Refused n) p (Unread n) held c t valid refl refl
+    walked-unread n valid held p = closed p (Unread n) held c t valid (unread-shown to (coreOf c t) n) refl
 
     -- a line with a form
-    pub walked-form : {new : List ℕ} {more : ℕ} (call : Call) → parsed (between text at end) ≡ Form call
-        → (r : Answered) (u : Tables) → Meets (eventOf call) c t r u
-        → Printed (r .answer) out written new more
-        → Further new more (r .control) u
+    pub walked-form : {new : List ℕ} (call : Call) → parsed (between text at end) ≡ Form call
+        → (r : Shown) (u : Tables) → CallShown to call c t out written new r u
+        → Further new (r .written) (r .control) u
     unfolding answered
-    walked-form call held r u m p = closed (r .answer) p (Form call) held (r .control) u (m .valid) (m .answer) (m .core)
+    walked-form call held r u m = closed (m .written) (Form call) held (r .control) u (m .valid) refl (m .core)

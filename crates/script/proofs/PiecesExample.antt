@@ -26,6 +26,8 @@ use Rattle.tables.specs.Numbers.{firstFailed}
 use Rattle.opening.proofs.EmptyTables.{emptyControl, emptyTables}
 use Rattle.opening.proofs.OpenPromise.{open-accepted}
 use Rattle.tables.proofs.Promises.{coreOf-shut}
+use Rattle.grammar.specs.declared.Audience.{Audience}
+use Rattle.grammar.specs.declared.Audience.the-variants.{Caller}
 use Rattle.script.specs.Pieces.{ahead, coreBehind, Piece, Written, started, piece}
 use Rattle.script.specs.PiecesExample.{twoLines, buffer, progress, ThreePieces, Held, Ended, PiecesExist}
 use Rattle.script.proofs.LinePrinted.{ahead-none, core-past, closed-core, open-core}
@@ -40,13 +42,13 @@ new t = (coreOf-shut shut t refl, λ e. true-false e refl)
 -- ---- any text
 
 -- a text that is read, in one buffer with room behind all that it prints
-module _ (text : List ℕ) (inside : 0 < length text) (c : Control) (t : Tables) (valid : Valid c t)
+module _ (to : Audience) (text : List ℕ) (inside : 0 < length text) (c : Control) (t : Tables) (valid : Valid c t)
     (held : coreOf c t ≡ coreFrom unopened [] text) where
   abbrev first : Core
   first = coreOf shut emptyTables
 
   abbrev all : List ℕ
-  all = ahead first text 0
+  all = ahead to first text 0
 
   abbrev out : List ℕ
   out = all ++ replicate lineRoom 0
@@ -61,11 +63,11 @@ module _ (text : List ℕ) (inside : 0 < length text) (c : Control) (t : Tables)
       ∙ sym (ap (coreFrom first []) (take-all (upto - 0) text (omega arith))
       ∙ ap (λ (x : Core). coreFrom x [] text) (new emptyTables .0))
 
-  whole : Piece text 0 shut emptyTables out (progress c (length text) (length all)) t
+  whole : Piece to text 0 shut emptyTables out (progress c (length text) (length all)) t
   whole = record {
     walked = record {
       printed =
-          ap (λ (l : List ℕ). take (length all) out ++ l) (ahead-none (coreOf c t) text (length text) (omega arith))
+          ap (λ (l : List ℕ). take (length all) out ++ l) (ahead-none to (coreOf c t) text (length text) (omega arith))
           ∙ append-nil (take (length all) out)
           ∙ take-append-seam all (replicate lineRoom 0);
       fits = omega (arith, room);
@@ -80,14 +82,14 @@ module _ (text : List ℕ) (inside : 0 < length text) (c : Control) (t : Tables)
     ended = λ past. absurd (omega arith);
   }
 
-read : (text : List ℕ) → length text ≤ textLimit → Held text → Ended text
-read text short (c, t, valid, held) =
+read : (to : Audience) (text : List ℕ) → length text ≤ textLimit → Held text → Ended to text
+read to text short (c, t, valid, held) =
     lt-cases 0 (length text)
-    (λ inside. (_, c, t, piece begun (whole text inside c t valid held)))
+    (λ inside. (_, c, t, piece begun (whole to text inside c t valid held)))
     (λ none. let empty : 0 ≡ length text = omega arith in
-    ([], shut, emptyTables, subst (λ (n : ℕ). Written text [] n shut emptyTables) empty begun))
+    ([], shut, emptyTables, subst (λ (n : ℕ). Written to text [] n shut emptyTables) empty begun))
   where
-    begun : Written text [] 0 shut emptyTables
+    begun : Written to text [] 0 shut emptyTables
     begun = started (start-read text shut new (replicate lineRoom 0) short) (omega arith)
 
 -- an open is accepted
@@ -105,9 +107,9 @@ held = (
 )
 
 -- a text that is too long, whose line is written at the start
-long : (text : List ℕ) → textLimit < length text → Ended text
+long : (to : Audience) (text : List ℕ) → textLimit < length text → Ended to text
 unfolding printing
-long text over =
+long to text over =
     (take 13 out, shut, emptyTables, started (start-long text shut new (replicate lineRoom 0) out 13 over wrote refl) (omega arith))
   where
     out : List ℕ
@@ -121,9 +123,9 @@ long text over =
 
 -- ---- the example
 
-bare : Piece twoLines 0 shut emptyTables [] (progress shut 0 0) emptyTables
+bare : Piece Caller twoLines 0 shut emptyTables [] (progress shut 0 0) emptyTables
 bare = record {
-  walked = walked-none twoLines 0 shut emptyTables [] (new emptyTables .1);
+  walked = walked-none Caller twoLines 0 shut emptyTables [] (new emptyTables .1);
   full = λ more. omega arith;
   onward = λ inside room. absurd (omega arith);
   bare = λ little. (refl, refl);
@@ -138,7 +140,7 @@ lastLine : LineEnd twoLines 7 15
 unfolding lineEnd
 lastLine = span-end twoLines 7 (spanAt twoLines 7) refl (omega arith)
 
-line : Piece twoLines 0 shut emptyTables (buffer (bytes "(refused 19)\n")) (progress shut 7 13) emptyTables
+line : Piece Caller twoLines 0 shut emptyTables (buffer (bytes "(refused 19)\n")) (progress shut 7 13) emptyTables
 unfolding printing
 line = record {
   walked = record {
@@ -157,11 +159,11 @@ line = record {
   ended = λ past. absurd (omega arith);
 }
 
-rest : Piece twoLines 7 shut emptyTables (buffer (bytes "(refused 16)\n")) (progress shut 15 13) emptyTables
+rest : Piece Caller twoLines 7 shut emptyTables (buffer (bytes "(refused 16)\n")) (progress shut 15 13) emptyTables
 unfolding printing
 rest = record {
   walked = record {
-    printed = subst (λ (core : Core). bytes "(refused 16)\n" ≡ ahead core twoLines 7) (sym (new emptyTables .0)) refl;
+    printed = subst (λ (core : Core). bytes "(refused 16)\n" ≡ ahead Caller core twoLines 7) (sym (new emptyTables .0)) refl;
     fits = omega arith;
     core = open-core (coreOf shut emptyTables) twoLines 7 (omega arith) (lastLine .unbroken);
     forth = omega arith;

@@ -10,8 +10,9 @@ use borrow.Author.Tests.{lt-ltb, le-ltb}
 use Rattle.definitions.specs.declared.Answer.the-variants.{Refused}
 use Rattle.definitions.specs.State.{Core, unopened}
 use Rattle.definitions.proofs.Laws.Tests.{lt-cases}
+use Rattle.grammar.specs.declared.Audience.{Audience}
 use Rattle.grammar.specs.Bytes.{textLimit}
-use Rattle.grammar.specs.Printout.{printed, coreFrom, printout, printoutIn}
+use Rattle.grammar.specs.Printout.{printed, coreFrom, printoutFor, printoutIn}
 use Rattle.printer.specs.Printed.{lineRoom, Printed}
 use Rattle.printer.proofs.Appending.{appended-front}
 use Rattle.tables.specs.declared.Control.{Control}
@@ -24,9 +25,9 @@ use Rattle.script.proofs.LinePrinted.{ahead-none, core-here}
 
 -- ---- lines behind one another
 
-pub walked-none : (text : List ℕ) (at : ℕ) (c : Control) (t : Tables) (out : List ℕ) → Valid c t
-    → Walked text at c t [] out (record { control = c; next = at; written = 0 }) t
-walked-none text at c t out valid = record {
+pub walked-none : (to : Audience) (text : List ℕ) (at : ℕ) (c : Control) (t : Tables) (out : List ℕ) → Valid c t
+    → Walked to text at c t [] out (record { control = c; next = at; written = 0 }) t
+walked-none to text at c t out valid = record {
   printed = refl;
   fits = omega arith;
   core = λ upto past. refl;
@@ -35,12 +36,12 @@ walked-none text at c t out valid = record {
   valid = valid;
 }
 
-pub walked-more : {text : List ℕ} {at : ℕ} {c : Control} {t : Tables} {before out : List ℕ} {r : Progress} {u : Tables}
+pub walked-more : {to : Audience} {text : List ℕ} {at : ℕ} {c : Control} {t : Tables} {before out : List ℕ} {r : Progress} {u : Tables}
     {last : List ℕ}
     {s : Progress} {v : Tables}
-    → Walked text at c t before out r u
-    → Walked text (r .next) (r .control) u (take (r .written) out) last s v
-    → Walked text at c t before last s v
+    → Walked to text at c t before out r u
+    → Walked to text (r .next) (r .control) u (take (r .written) out) last s v
+    → Walked to text at c t before last s v
 walked-more w more = record {
   printed = more .printed ∙ w .printed;
   fits = more .fits;
@@ -51,14 +52,14 @@ walked-more w more = record {
 }
 
 -- a walk that stopped for want of lines or of room is a piece
-pub piece-done : {text : List ℕ} {at : ℕ} {c : Control} {t : Tables} {out : List ℕ} {r : Progress} {u : Tables}
-    → Walked text at c t [] out r u
+pub piece-done : {to : Audience} {text : List ℕ} {at : ℕ} {c : Control} {t : Tables} {out : List ℕ} {r : Progress} {u : Tables}
+    → Walked to text at c t [] out r u
     → (r .next < length text → length out < r .written + lineRoom)
     → (r .next ≤ at → r .written ≡ 0)
     → (length out < lineRoom → Unmoved at c t r u)
     → (length text ≤ at → Unmoved at c t r u)
-    → Piece text at c t out r u
-piece-done {text} {at} {out = out} {r} w full still bare ended = record {
+    → Piece to text at c t out r u
+piece-done {to} {text} {at} {out = out} {r} w full still bare ended = record {
   walked = w;
   full = full;
   onward = λ inside room.
@@ -68,20 +69,20 @@ piece-done {text} {at} {out = out} {r} w full still bare ended = record {
 }
 
 -- a piece behind some bytes: what was written, with what is ahead, stays what it was
-pub piece-printed : {text : List ℕ} {at : ℕ} {c : Control} {t : Tables} {out : List ℕ} {r : Progress} {u : Tables} {all : List ℕ}
+pub piece-printed : {to : Audience} {text : List ℕ} {at : ℕ} {c : Control} {t : Tables} {out : List ℕ} {r : Progress} {u : Tables} {all : List ℕ}
     (bytes : List ℕ)
-    → Piece text at c t out r u
-    → bytes ++ ahead (coreOf c t) text at ≡ all
-    → (bytes ++ take (r .written) out) ++ ahead (coreOf (r .control) u) text (r .next) ≡ all
-piece-printed {text} {out = out} {r} {u} bytes p before =
-    append-assoc bytes (take (r .written) out) (ahead (coreOf (r .control) u) text (r .next))
+    → Piece to text at c t out r u
+    → bytes ++ ahead to (coreOf c t) text at ≡ all
+    → (bytes ++ take (r .written) out) ++ ahead to (coreOf (r .control) u) text (r .next) ≡ all
+piece-printed {to} {text} {out = out} {r} {u} bytes p before =
+    append-assoc bytes (take (r .written) out) (ahead to (coreOf (r .control) u) text (r .next))
     ∙ ap (λ (l : List ℕ). bytes ++ l) (p .walked .printed)
     ∙ before
 
 -- and the core goes on as another does, if the one before it did
-pub piece-alike : {text : List ℕ} {at : ℕ} {c : Control} {t : Tables} {out : List ℕ} {r : Progress} {u : Tables}
+pub piece-alike : {to : Audience} {text : List ℕ} {at : ℕ} {c : Control} {t : Tables} {out : List ℕ} {r : Progress} {u : Tables}
     {other : ℕ → Core}
-    → Piece text at c t out r u
+    → Piece to text at c t out r u
     → ((upto : ℕ) → at ≤ upto → coreBehind (coreOf c t) text at upto ≡ other upto)
     → (upto : ℕ) → r .next ≤ upto
     → coreBehind (coreOf (r .control) u) text (r .next) upto ≡ other upto
@@ -93,7 +94,7 @@ module _ (text : List ℕ) (c : Control) (new : (t : Tables) → (coreOf c t ≡
   pub start-read : (out : List ℕ) → length text ≤ textLimit → Start text out (record { control = c; next = 0; written = 0 })
   unfolding printoutIn
   start-read out short = record {
-    printed = λ room. rw (printoutIn, le-ltb textLimit (length text) short) refl;
+    printed = λ to room. rw (printoutIn, le-ltb textLimit (length text) short) refl;
     bare = λ little. refl;
     fits = omega arith;
     next = rw (le-ltb textLimit (length text) short) refl;
@@ -105,8 +106,8 @@ module _ (text : List ℕ) (c : Control) (new : (t : Tables) → (coreOf c t ≡
       → Start text last (record { control = c; next = length text; written = written })
   unfolding printoutIn
   start-long out last written over p same = record {
-    printed = λ room.
-        ap (λ (l : List ℕ). take written last ++ l) (ahead-none unopened text (length text) (omega arith))
+    printed = λ to room.
+        ap (λ (l : List ℕ). take written last ++ l) (ahead-none to unopened text (length text) (omega arith))
         ∙ append-nil (take written last)
         ∙ appended-front (p .written (omega arith))
         ∙ rw (printoutIn, lt-ltb textLimit (length text) over) refl;
@@ -131,36 +132,36 @@ start-place {text} {r = r} s =
 
 -- ---- the theorem
 
-sofar : (text bytes : List ℕ) (at : ℕ) (c : Control) (t : Tables) → Written text bytes at c t
-    → bytes ++ ahead (coreOf c t) text at ≡ printout text
-sofar text _ _ _ t (started {out} {r} s room) =
-    ap (λ (x : Core). take (r .written) out ++ ahead x text (r .next)) (s .core t .0) ∙ s .printed room
-sofar text _ _ _ u (piece {bytes} {at} {c} {t} w p) = piece-printed bytes p (sofar text bytes at c t w)
+sofar : (to : Audience) (text bytes : List ℕ) (at : ℕ) (c : Control) (t : Tables) → Written to text bytes at c t
+    → bytes ++ ahead to (coreOf c t) text at ≡ printoutFor to text
+sofar to text _ _ _ t (started {out} {r} s room) =
+    ap (λ (x : Core). take (r .written) out ++ ahead to x text (r .next)) (s .core t .0) ∙ s .printed to room
+sofar to text _ _ _ u (piece {bytes} {at} {c} {t} w p) = piece-printed bytes p (sofar to text bytes at c t w)
 
 -- the core goes with the text up to any later place as the unopened core does from the first byte
-alike : (text bytes : List ℕ) (at : ℕ) (c : Control) (t : Tables) → Written text bytes at c t → length text ≤ textLimit
+alike : (to : Audience) (text bytes : List ℕ) (at : ℕ) (c : Control) (t : Tables) → Written to text bytes at c t → length text ≤ textLimit
     → (upto : ℕ) → at ≤ upto
     → coreBehind (coreOf c t) text at upto ≡ coreBehind unopened text 0 upto
-alike text _ _ _ t (started {out} {r} s room) short upto past =
+alike to text _ _ _ t (started {out} {r} s room) short upto past =
     let first : r .next ≡ 0 = rw (le-ltb textLimit (length text) short) at (s .next) in
     λ i. coreBehind (s .core t .0 i) text (first i) upto
-alike text _ _ _ u (piece {bytes} {at} {c} {t} w p) short upto past =
-    piece-alike p (λ place behind. alike text bytes at c t w short place behind) upto past
+alike to text _ _ _ u (piece {bytes} {at} {c} {t} w p) short upto past =
+    piece-alike p (λ place behind. alike to text bytes at c t w short place behind) upto past
 
-core : (text bytes : List ℕ) (at : ℕ) (c : Control) (t : Tables) → Written text bytes at c t → length text ≤ textLimit
+core : (to : Audience) (text bytes : List ℕ) (at : ℕ) (c : Control) (t : Tables) → Written to text bytes at c t → length text ≤ textLimit
     → coreOf c t ≡ coreFrom unopened [] (take at text)
-core text bytes at c t w short =
+core to text bytes at c t w short =
     let all : at - 0 ≡ at = omega arith in
-    sym (core-here (coreOf c t) text at) ∙ alike text bytes at c t w short at (omega arith)
+    sym (core-here (coreOf c t) text at) ∙ alike to text bytes at c t w short at (omega arith)
     ∙ ap (λ (n : ℕ). coreFrom unopened [] (take n text)) all
 
 -- a text that is too long is at its end from the start, and stays there
-unread : (text bytes : List ℕ) (at : ℕ) (c : Control) (t : Tables) → Written text bytes at c t → textLimit < length text
+unread : (to : Audience) (text bytes : List ℕ) (at : ℕ) (c : Control) (t : Tables) → Written to text bytes at c t → textLimit < length text
     → (length text ≤ at) × (coreOf c t ≡ unopened)
-unread text _ _ _ t (started {out} {r} s room) over =
+unread to text _ _ _ t (started {out} {r} s room) over =
     let end : r .next ≡ length text = rw (lt-ltb textLimit (length text) over) at (s .next) in (omega (arith, end), s .core t .0)
-unread text _ _ _ u (piece {bytes} {at} {c} {t} {out = out} {r} w p) over =
-    let sofar = unread text bytes at c t w over in
+unread to text _ _ _ u (piece {bytes} {at} {c} {t} {out = out} {r} w p) over =
+    let sofar = unread to text bytes at c t w over in
     let same = p .ended (sofar .0) in (
       omega (arith, sofar .0, p .walked .forth),
       ap (λ (x : Progress). coreOf (x .control) u) (same .0) ∙ ap (coreOf c) (same .1) ∙ sofar .1,
@@ -169,11 +170,11 @@ unread text _ _ _ u (piece {bytes} {at} {c} {t} {out = out} {r} w p) over =
 pub pieces-printed : PiecesPrinted
 pieces-printed = record {
   sofar = sofar;
-  whole = λ text bytes at c t w past.
-      sym (append-nil bytes) ∙ ap (λ (l : List ℕ). bytes ++ l) (sym (ahead-none (coreOf c t) text at past))
-      ∙ sofar text bytes at c t w;
+  whole = λ to text bytes at c t w past.
+      sym (append-nil bytes) ∙ ap (λ (l : List ℕ). bytes ++ l) (sym (ahead-none to (coreOf c t) text at past))
+      ∙ sofar to text bytes at c t w;
   core = core;
-  wholeCore = λ text bytes at c t w short past.
-      core text bytes at c t w short ∙ ap (coreFrom unopened []) (take-all at text past);
-  tooLong = λ text bytes at c t w over. unread text bytes at c t w over .1;
+  wholeCore = λ to text bytes at c t w short past.
+      core to text bytes at c t w short ∙ ap (coreFrom unopened []) (take-all at text past);
+  tooLong = λ to text bytes at c t w over. unread to text bytes at c t w over .1;
 }

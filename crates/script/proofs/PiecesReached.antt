@@ -12,18 +12,19 @@ use Rattle.tables.specs.declared.Control.{Control}
 use Rattle.tables.specs.Tables.{Tables}
 use Rattle.tables.specs.Meaning.{coreOf}
 use Rattle.tables.specs.Invariant.{Valid}
+use Rattle.grammar.specs.declared.Audience.{Audience}
 use Rattle.script.specs.declared.Progress.{Progress}
 use Rattle.script.specs.Pieces.{Start, Piece, Written, started, piece}
 use Rattle.script.proofs.PiecesPrinted.{start-place, pieces-printed}
 
-pub record Reached (text bytes : List ℕ) (c : Control) (t : Tables) (at : ℕ) : Type 0 where
-  pub sofar : Written text bytes at c t
+pub record Reached (to : Audience) (text bytes : List ℕ) (c : Control) (t : Tables) (at : ℕ) : Type 0 where
+  pub sofar : Written to text bytes at c t
   pub within : at ≤ length text
   pub read : at < length text → length text ≤ textLimit
   pub valid : Valid c t
 
-pub reached-first : {text out : List ℕ} {r : Progress} → Start text out r → lineRoom ≤ length out → (t : Tables)
-    → Reached text (take (r .written) out) (r .control) t (r .next)
+pub reached-first : {to : Audience} {text out : List ℕ} {r : Progress} → Start text out r → lineRoom ≤ length out → (t : Tables)
+    → Reached to text (take (r .written) out) (r .control) t (r .next)
 reached-first s room t = record {
   sofar = started s room;
   within = start-place s .0;
@@ -31,9 +32,9 @@ reached-first s room t = record {
   valid = s .core t .1;
 }
 
-module _ {text bytes : List ℕ} {c : Control} {t : Tables} {at : ℕ} (k : Reached text bytes c t at) where
-  pub reached-more : {new : List ℕ} {r : Progress} {u : Tables} → Piece text at c t new r u → at < length text
-      → Reached text (bytes ++ take (r .written) new) (r .control) u (r .next)
+module _ {to : Audience} {text bytes : List ℕ} {c : Control} {t : Tables} {at : ℕ} (k : Reached to text bytes c t at) where
+  pub reached-more : {new : List ℕ} {r : Progress} {u : Tables} → Piece to text at c t new r u → at < length text
+      → Reached to text (bytes ++ take (r .written) new) (r .control) u (r .next)
   reached-more p inside = record {
     sofar = piece (k .sofar) p;
     within = p .walked .within (k .within);
@@ -43,4 +44,4 @@ module _ {text bytes : List ℕ} {c : Control} {t : Tables} {at : ℕ} (k : Reac
 
   -- at the end of a text that is not too long
   pub reached-core : length text ≤ textLimit → length text ≤ at → coreOf c t ≡ coreFrom unopened [] text
-  reached-core short past = pieces-printed .wholeCore text bytes at c t (k .sofar) short past
+  reached-core short past = pieces-printed .wholeCore to text bytes at c t (k .sofar) short past

@@ -1,4 +1,4 @@
--- There are pieces as `Pieces` speaks of them: to the end of any text that is too long, and of any other if some control and
+-- There are pieces as `Pieces` speaks of them, for whomever: to the end of any text that is too long, and of any other if some control and
 -- tables hold the core behind it, as they do behind an open; and, as an example, those of a text of two lines into three
 -- buffers. The first has no room for a line, and nothing is written; the second has room for one line; the third is given the
 -- rest.
@@ -7,6 +7,8 @@ use mathlib.Core.Path.{_≡_}
 use mathlib.Core.List.{List, [], _++_}
 use lib.ListN.{length, replicate}
 use Rattle.definitions.specs.State.{unopened}
+use Rattle.grammar.specs.declared.Audience.{Audience}
+use Rattle.grammar.specs.declared.Audience.the-variants.{Caller}
 use Rattle.grammar.specs.Bytes.{bytes, textLimit}
 use Rattle.grammar.specs.Printout.{coreFrom}
 use Rattle.printer.specs.Printed.{lineRoom}
@@ -29,20 +31,20 @@ progress c next written = record { control = c; next = next; written = written }
 
 pub record ThreePieces (c : Control) (t : Tables) : Type 0 where
   pub start : Start twoLines (replicate lineRoom 0) (progress c 0 0)
-  pub bare : Piece twoLines 0 c t [] (progress c 0 0) t
-  pub line : Piece twoLines 0 c t (buffer (bytes "(refused 19)\n")) (progress c 7 13) t
-  pub rest : Piece twoLines 7 c t (buffer (bytes "(refused 16)\n")) (progress c 15 13) t
+  pub bare : Piece Caller twoLines 0 c t [] (progress c 0 0) t
+  pub line : Piece Caller twoLines 0 c t (buffer (bytes "(refused 19)\n")) (progress c 7 13) t
+  pub rest : Piece Caller twoLines 7 c t (buffer (bytes "(refused 16)\n")) (progress c 15 13) t
 
 -- some control and tables hold the core behind a text
 abbrev pub Held : List ℕ → Type 0
 Held text = (c : Control) × (t : Tables) × Valid c t × (coreOf c t ≡ coreFrom unopened [] text)
 
 -- there are pieces to the end of a text
-abbrev pub Ended : List ℕ → Type 0
-Ended text = (bytes : List ℕ) × (c : Control) × (t : Tables) × Written text bytes (length text) c t
+abbrev pub Ended : Audience → List ℕ → Type 0
+Ended to text = (bytes : List ℕ) × (c : Control) × (t : Tables) × Written to text bytes (length text) c t
 
 pub record PiecesExist : Type 0 where
-  pub tooLong : (text : List ℕ) → textLimit < length text → Ended text
-  pub read : (text : List ℕ) → length text ≤ textLimit → Held text → Ended text
+  pub tooLong : (to : Audience) (text : List ℕ) → textLimit < length text → Ended to text
+  pub read : (to : Audience) (text : List ℕ) → length text ≤ textLimit → Held text → Ended to text
   pub held : Held (bytes "(open 50 1 7)\n")
   pub example : (c : Control) × (t : Tables) × ThreePieces c t

@@ -5,6 +5,7 @@ use mathlib.Core.Path.{_≡_}
 use mathlib.Core.List.{List, [], _++_}
 use lib.ListN.{take}
 use Rattle.definitions.specs.History.{Trace, begin, _and_}
+use Rattle.grammar.specs.declared.Audience.{Audience}
 use Rattle.grammar.specs.Printout.{printed}
 use Rattle.tables.specs.declared.Control.{Control}
 use Rattle.tables.specs.Tables.{Tables}
@@ -19,12 +20,12 @@ use Rattle.script.specs.Pieces.{Piece}
 
 -- Pieces one after the other from a place of a text on, with control c and tables t there: the bytes that were written, and the
 -- place, control and tables behind them.
-pub data PiecesFrom (text : List ℕ) (from : ℕ) (c : Control) (t : Tables) : List ℕ → ℕ → Control → Tables → Type 0 where
-  here : PiecesFrom text from c t [] from c t
+pub data PiecesFrom (to : Audience) (text : List ℕ) (from : ℕ) (c : Control) (t : Tables) : List ℕ → ℕ → Control → Tables → Type 0 where
+  here : PiecesFrom to text from c t [] from c t
   piece : {bytes : List ℕ} {at : ℕ} {d : Control} {u v : Tables} {out : List ℕ} {r : Progress}
-      → PiecesFrom text from c t bytes at d u
-      → Piece text at d u out r v
-      → PiecesFrom text from c t (bytes ++ take (r .written) out) (r .next) (r .control) v
+      → PiecesFrom to text from c t bytes at d u
+      → Piece to text at d u out r v
+      → PiecesFrom to text from c t (bytes ++ take (r .written) out) (r .next) (r .control) v
 
 -- the lines that the answers of a trace print
 unfoldable pub linesOf : Trace → List ℕ
@@ -41,12 +42,12 @@ pub record UnseenOnPaper : Type 0 where
       → CallsFrom Meets c u second e w
       → callsOf second ≡ callsOf first
       → linesOf second ≡ linesOf first
-  -- Both are given the same text from the same place on, in pieces of any length. Wherever both have come to the same place, the
+  -- Both are given the same text from the same place on, for the same audience, in pieces of any length. Wherever both have come to the same place, the
   -- same bytes were written, and the cores mean the same.
-  pub script : (text : List ℕ) (from : ℕ) (c : Control) (t u : Tables)
+  pub script : (to : Audience) (text : List ℕ) (from : ℕ) (c : Control) (t u : Tables)
       → Valid c t
       → DifferUnused c t u
       → (first second : List ℕ) (at : ℕ) (d e : Control) (v w : Tables)
-      → PiecesFrom text from c t first at d v
-      → PiecesFrom text from c u second at e w
+      → PiecesFrom to text from c t first at d v
+      → PiecesFrom to text from c u second at e w
       → (second ≡ first) × (coreOf e w ≡ coreOf d v)

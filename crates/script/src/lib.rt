@@ -1,4 +1,8 @@
-// A script in pieces: from a place on, each line is parsed, carried out and answered by one printed line.
+// A script in pieces: from a place on, each line is parsed and carried out. For the caller one line is printed in answer to it; for the
+// operator, or a private tenant, only ticks print one.
+use definitions::Answer;
+use draw::Sample;
+use grammar::Audience;
 use grammar::Call;
 use grammar::Line;
 use grammar::TEXT_LIMIT;
@@ -14,12 +18,15 @@ ghost use lib.Dec.{leb};
 ghost use lib.ListN.{length, take};
 ghost use Prim.Native.Nat.{_+_, _≤_, _<_};
 ghost use Rattle.grammar.specs.Calls.{eventOf};
-ghost use Rattle.printer.specs.Printed.{lineRoom};
+ghost use Rattle.draw.specs.Samples.{drawsTold};
+ghost use Rattle.printer.specs.Printed.{lineRoom, LineWritten};
 ghost use Rattle.reader.specs.LineSpans.{isEnd};
-ghost use Rattle.tables.specs.Tables.{tables};
+ghost use Rattle.tables.specs.Tables.{Tables, tables};
+ghost use Rattle.tables.specs.Meaning.{coreOf};
 ghost use Rattle.tables.specs.Invariant.{Valid};
 ghost use Rattle.tables.specs.Places.{Promised};
 ghost use Rattle.script.specs.UnreadLine.{unreadNumber};
+ghost use Rattle.script.specs.Shown.{answerFor, tickFor, CallShown};
 ghost use Rattle.script.specs.Pieces.{Walked, Piece, Start};
 
 // What bytes that are no form are answered with, and a text that is too long.
@@ -137,8 +144,120 @@ fn unread_number(read: Line) -> u32
     }
 }
 
-// One line, for whose answer there is room: what it holds is carried out, or it is answered and skipped.
+// What a call that was carried out leaves: the control, and how many bytes are written with what it shows.
+struct Shown {
+    control: Control,
+    written: usize,
+}
+
+// Writes what a line without a tick shows: its answer, to the caller alone.
+fn print_answer(audience: Audience, out: &mut [u8], at: usize, answer: Answer) -> usize
+    ensures { λ r. ⌜ LineWritten (answerFor audience answer) (now (out .entry)) at (now (out .exit)) r ⌝ }
+{
+    match audience {
+        Audience::Caller => printer::print(out, at, answer),
+        Audience::Operator => at,
+        Audience::Tenant { id: _ } => at,
+    }
+}
+
+// Writes what a tick shows, on the control before it.
+fn print_tick(
+    audience: Audience,
+    out: &mut [u8],
+    at: usize,
+    control: Control,
+    answer: Answer,
+    sample: Sample,
+) -> usize
+    ensures { λ r. ⌜ ((t : Tables) → LineWritten (tickFor audience (coreOf control t) answer (drawsTold sample))
+        (now (out .entry)) at (now (out .exit)) r) ⌝ }
+{
+    match audience {
+        Audience::Caller => printer::print(out, at, answer),
+        Audience::Operator => printer::print_note(out, at, notes::operator(answer, sample)),
+        Audience::Tenant { id } => {
+            let note = notes::tenant(id, control, answer, sample);
+            printer::print_note(out, at, note)
+        }
+    }
+}
+
+// Carries a tick out, and writes what it shows.
+fn show_tick(
+    audience: Audience,
+    out: &mut [u8],
+    at: usize,
+    control: Control,
+    terms: &mut [u32; TERMS],
+    stocks: &mut [u32; STOCKS],
+    handles: &[u64; STORE],
+    lengths: &[u16; STORE],
+    links: &mut [u32; LINKS],
+) -> Shown
+    requires { ⌜ Valid control (tables (now terms) (now stocks) (now handles) (now lengths) (now links)) ⌝ }
+    ensures { λ r. ⌜ CallShown audience Call.Tick control
+        (tables (now (terms .entry)) (now (stocks .entry)) (now (handles .entry)) (now (lengths .entry)) (now (links .entry)))
+        (now (out .entry)) at (now (out .exit)) r
+        (tables (now (terms .exit)) (now (stocks .exit)) (now (handles .exit)) (now (lengths .exit)) (now (links .exit))) ⌝ }
+{
+    let ticked = slot::tick(control, terms, stocks, handles, lengths, links);
+    let answered = ticked.answered;
+    let answer = answered.answer;
+    let after = answered.control;
+    let sample = ticked.sample;
+    let written = print_tick(audience, out, at, control, answer, sample);
+    Shown {
+        control: after,
+        written,
+    }
+}
+
+// Carries a call out, and writes what it shows.
+fn show(
+    audience: Audience,
+    out: &mut [u8],
+    at: usize,
+    control: Control,
+    terms: &mut [u32; TERMS],
+    stocks: &mut [u32; STOCKS],
+    handles: &mut [u64; STORE],
+    lengths: &mut [u16; STORE],
+    links: &mut [u32; LINKS],
+    call: Call,
+) -> Shown
+    requires { ⌜ Valid control (tables (now terms) (now stocks) (now handles) (now lengths) (now links)) ⌝ }
+    ensures { λ r. ⌜ CallShown audience call control
+        (tables (now (terms .entry)) (now (stocks .entry)) (now (handles .entry)) (now (lengths .entry)) (now (links .entry)))
+        (now (out .entry)) at (now (out .exit)) r
+        (tables (now (terms .exit)) (now (stocks .exit)) (now (handles .exit)) (now (lengths .exit)) (now (links .exit))) ⌝ }
+{
+    if let Call::Tick = call {
+        return show_tick(
+            audience,
+            out,
+            at,
+            control,
+            terms,
+            stocks,
+            handles,
+            lengths,
+            links,
+        );
+    }
+    let answered = perform(control, terms, stocks, handles, lengths, links, call);
+    let answer = answered.answer;
+    let after = answered.control;
+    let written = print_answer(audience, out, at, answer);
+    Shown {
+        control: after,
+        written,
+    }
+}
+
+// One line, for which there is room: what it holds is carried out, or it is answered and skipped.
 fn line(
+    audience: Audience,
     text: &[u8],
     at: usize,
     out: &mut [u8],
@@ -152,7 +271,7 @@ fn line(
 ) -> Progress
     requires { ⌜ Valid control (tables (now terms) (now stocks) (now handles) (now lengths) (now links))
         × (at < length (now text)) × (written + lineRoom ≤ length (now out)) ⌝ }
-    ensures { λ r. ⌜ Walked (now (text .entry)) at control
+    ensures { λ r. ⌜ Walked audience (now (text .entry)) at control
         (tables (now (terms .entry)) (now (stocks .entry)) (now (handles .entry)) (now (lengths .entry)) (now (links .entry)))
         (take written (now (out .entry))) (now (out .exit)) r
         (tables (now (terms .exit)) (now (stocks .exit)) (now (handles .exit)) (now (lengths .exit)) (now (links .exit))) × (at < r .next) ⌝ }
@@ -161,7 +280,7 @@ fn line(
     let end = span.end;
     let next = span.next;
     if end == text.len() {
-        let more = printer::print_refused(out, written, NO_FORM);
+        let more = print_answer(audience, out, written, Answer::Refused { number: NO_FORM });
         return Progress {
             control,
             next,
@@ -171,21 +290,30 @@ fn line(
     let read = parser::parse(&text[at..end]);
     let Line::Form { call } = read else {
         let number = unread_number(read);
-        let more = printer::print_refused(out, written, number);
+        let more = print_answer(audience, out, written, Answer::Refused { number });
         return Progress {
             control,
             next,
             written: more,
         };
     };
-    let answered = perform(control, terms, stocks, handles, lengths, links, call);
-    let answer = answered.answer;
-    let after = answered.control;
-    let more = printer::print(out, written, answer);
+    let shown = show(
+        audience,
+        out,
+        written,
+        control,
+        terms,
+        stocks,
+        handles,
+        lengths,
+        links,
+        call,
+    );
+    let after = shown.control;
     Progress {
         control: after,
         next,
-        written: more,
+        written: shown.written,
     }
 }
 
@@ -221,6 +349,7 @@ pub fn start(text: &[u8], out: &mut [u8]) -> Progress
 
 // The lines from a place on whose answers have room, written from the start of the buffer.
 pub fn piece(
+    audience: Audience,
     text: &[u8],
     at: usize,
     out: &mut [u8],
@@ -232,7 +361,7 @@ pub fn piece(
     links: &mut [u32; LINKS],
 ) -> Progress
     requires { ⌜ Valid control (tables (now terms) (now stocks) (now handles) (now lengths) (now links)) ⌝ }
-    ensures { λ r. ⌜ Piece (now (text .entry)) at control
+    ensures { λ r. ⌜ Piece audience (now (text .entry)) at control
         (tables (now (terms .entry)) (now (stocks .entry)) (now (handles .entry)) (now (lengths .entry)) (now (links .entry)))
         (now (out .exit)) r
         (tables (now (terms .exit)) (now (stocks .exit)) (now (handles .exit)) (now (lengths .exit)) (now (links .exit))) ⌝ }
@@ -242,6 +371,7 @@ pub fn piece(
     let mut written: usize = 0;
     while goes_on(text, place, out.len(), written) {
         let progress = line(
+            audience,
             text,
             place,
             out,

@@ -6,8 +6,9 @@ use mathlib.Core.List.{List, _++_}
 use native.Mathlib.Omega.{arith}
 use lib.ListN.{length, take, length-append}
 use lib.Seq.{length-take-le}
+use Rattle.grammar.specs.declared.Audience.{Audience}
 use Rattle.grammar.specs.Bytes.{textLimit}
-use Rattle.grammar.specs.Printout.{printout}
+use Rattle.grammar.specs.Printout.{printoutFor}
 use Rattle.tables.specs.declared.Control.{Control}
 use Rattle.tables.specs.Tables.{Tables}
 use Rattle.script.specs.declared.Progress.{Progress}
@@ -16,16 +17,16 @@ use Rattle.script.proofs.PiecesPrinted.{pieces-printed}
 use Rattle.script.proofs.PiecesReached.{Reached, reached-first, reached-more}
 use Rattle.slots.specs.PieceRoom.{pieceRoom}
 
-pub record Counted (text out : List ℕ) (c : Control) (t : Tables) (at written total : ℕ) : Type 0 where
+pub record Counted (to : Audience) (text out : List ℕ) (c : Control) (t : Tables) (at written total : ℕ) : Type 0 where
   pub bytes : List ℕ
-  pub reached : Reached text bytes c t at
+  pub reached : Reached to text bytes c t at
   pub count : total ≡ length bytes
   pub room : pieceRoom ≡ length out
   pub fits : written ≤ length out
   pub few : total ≤ pieceRoom * at + pieceRoom
 
-pub counted-first : {text out : List ℕ} {r : Progress} → Start text out r → pieceRoom ≡ length out → (t : Tables)
-    → Counted text out (r .control) t (r .next) (r .written) (r .written)
+pub counted-first : {to : Audience} {text out : List ℕ} {r : Progress} → Start text out r → pieceRoom ≡ length out → (t : Tables)
+    → Counted to text out (r .control) t (r .next) (r .written) (r .written)
 counted-first {out = out} {r} s room t = record {
   bytes = take (r .written) out;
   reached = reached-first s (omega arith) t;
@@ -35,21 +36,22 @@ counted-first {out = out} {r} s room t = record {
   few = omega (arith, s .fits);
 }
 
-module _ {text out : List ℕ} {c : Control} {t : Tables} {at written total : ℕ} (k : Counted text out c t at written total) where
-  pub counted-on : {new : List ℕ} {r : Progress} {u : Tables} → Piece text at c t new r u → length new ≡ length out
+module _ {to : Audience} {text out : List ℕ} {c : Control} {t : Tables} {at written total : ℕ}
+    (k : Counted to text out c t at written total) where
+  pub counted-on : {new : List ℕ} {r : Progress} {u : Tables} → Piece to text at c t new r u → length new ≡ length out
       → at < length text
       → at < r .next
   counted-on p same inside = p .onward inside (omega (arith, k .room))
 
-  pub counted-fits : {new : List ℕ} {r : Progress} {u : Tables} → Piece text at c t new r u → length new ≡ length out
+  pub counted-fits : {new : List ℕ} {r : Progress} {u : Tables} → Piece to text at c t new r u → length new ≡ length out
       → at < length text
       → total + r .written ≤ pieceRoom * textLimit + pieceRoom
   unfolding textLimit
   counted-fits p same inside = omega (arith, k .few, k .room, k .reached .read inside, p .walked .fits)
 
-  pub counted-more : {new : List ℕ} {r : Progress} {u : Tables} → Piece text at c t new r u → length new ≡ length out
+  pub counted-more : {new : List ℕ} {r : Progress} {u : Tables} → Piece to text at c t new r u → length new ≡ length out
       → at < length text
-      → Counted text new (r .control) u (r .next) (r .written) (total + r .written)
+      → Counted to text new (r .control) u (r .next) (r .written) (total + r .written)
   counted-more {new} {r} p same inside = record {
     bytes = k .bytes ++ take (r .written) new;
     reached = reached-more (k .reached) p inside;
@@ -64,5 +66,5 @@ module _ {text out : List ℕ} {c : Control} {t : Tables} {at written total : �
     few = omega (arith, k .few, k .room, same, p .walked .fits, counted-on p same inside);
   }
 
-  pub counted-all : length text ≤ at → total ≡ length (printout text)
-  counted-all past = k .count ∙ ap length (pieces-printed .whole text (k .bytes) at c t (k .reached .sofar) past)
+  pub counted-all : length text ≤ at → total ≡ length (printoutFor to text)
+  counted-all past = k .count ∙ ap length (pieces-printed .whole to text (k .bytes) at c t (k .reached .sofar) past)

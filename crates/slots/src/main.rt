@@ -1,6 +1,7 @@
-// Reads a script from standard input and writes its printout, or the forecast behind it. What is written is decided in `script`
-// and in `forecast`.
+// Reads a script from standard input and writes its printout, the operator's sheet or a tenant's, or the forecast behind it. What is
+// written is decided in `script` and in `forecast`.
 use arguments::ARGUMENT;
+use grammar::Audience;
 use libc::STDERR_FILENO;
 use libc::STDOUT_FILENO;
 use order::LINKS;
@@ -13,28 +14,33 @@ use tables::STORE;
 use tables::TERMS;
 ghost use mathlib.Core.Path.{_≡_};
 ghost use lib.ListN.{length};
-ghost use Rattle.grammar.specs.Printout.{printout};
+ghost use Rattle.grammar.specs.Printout.{printoutFor};
 ghost use Rattle.grammar.specs.Forecast.{forecastBehind};
 ghost use Rattle.script.specs.Pieces.{Start};
 ghost use Rattle.streams.specs.Writing.{HandedOn};
 ghost use Rattle.slots.specs.PieceRoom.{pieceRoom};
-ghost use Rattle.slots.specs.Requests.{Asks, requested};
+ghost use Rattle.parser.specs.Words.{wordOf};
+ghost use Rattle.slots.specs.Requests.{usage, alone, numbered, asked, requested};
 
-// The program's name alone; and with it the option and its number.
+// The program's name alone; with it an option; and with it an option and its number.
 const NO_ARGUMENTS: usize = 1;
 
-const OPTION: usize = 3;
+const OPTION: usize = 2;
+
+const NUMBERED: usize = 3;
 
 // What the arguments ask for.
 enum Request {
-    Printout,
+    Printout { audience: Audience },
     Forecast { ticks: u32 },
+    Help,
     Unknown,
 }
 
 // Writes what the start of a script left in the buffer, and piece by piece what is behind it, to the end of the text or a write
 // that fails.
 fn write_pieces(
+    audience: Audience,
     text: &[u8],
     out: &mut [u8],
     first: Progress,
@@ -45,7 +51,7 @@ fn write_pieces(
     links: &mut [u32; LINKS],
 ) -> Writing
     requires { ⌜ Start (now text) (now out) first × (pieceRoom ≡ length (now out)) ⌝ }
-    ensures { λ r. ⌜ HandedOn r (printout (now (text .entry))) ⌝ }
+    ensures { λ r. ⌜ HandedOn r (printoutFor audience (now (text .entry))) ⌝ }
 {
     let mut control = first.control;
     let mut at = first.next;
@@ -56,6 +62,7 @@ fn write_pieces(
             return Writing::Bytes(total);
         }
         let piece = script::piece(
+            audience,
             text,
             at,
             out,
@@ -74,9 +81,9 @@ fn write_pieces(
     Writing::Failed
 }
 
-// Writes the printout of a text, on tables of its own.
-fn write_printout(text: &[u8]) -> Writing
-    ensures { λ r. ⌜ HandedOn r (printout (now (text .entry))) ⌝ }
+// Writes the printout of a text for an audience, on tables of its own.
+fn write_printout(audience: Audience, text: &[u8]) -> Writing
+    ensures { λ r. ⌜ HandedOn r (printoutFor audience (now (text .entry))) ⌝ }
 {
     let mut terms: [u32; TERMS] = [0; TERMS];
     let mut stocks: [u32; STOCKS] = [0; STOCKS];
@@ -86,6 +93,7 @@ fn write_printout(text: &[u8]) -> Writing
     let mut out = io::buffer();
     let first = script::start(text, &mut out);
     write_pieces(
+        audience,
         text,
         &mut out,
         first,
@@ -120,35 +128,78 @@ fn write_forecast(text: &[u8], ticks: u32) -> Writing
     streams::write_text(&out[..written])
 }
 
+// Writes the line of usage.
+fn write_usage(file: i32) -> Writing
+    ensures { λ r. ⌜ HandedOn r usage ⌝ }
+{
+    streams::write_to(
+        file,
+        b"usage: slots [--sure N | --operator | --tenant I | --help]\n",
+    )
+}
+
 // Writes what is asked for.
 fn write_requested(text: &[u8], request: Request) -> Writing
     ensures { λ r. ⌜ HandedOn r (requested request (now (text .entry))) ⌝ }
 {
     match request {
-        Request::Printout => write_printout(text),
+        Request::Printout { audience } => write_printout(audience, text),
         Request::Forecast { ticks } => write_forecast(text, ticks),
+        Request::Help => write_usage(STDOUT_FILENO),
         Request::Unknown => Writing::Bytes(0),
     }
 }
 
+// What an option alone asks for.
+fn option_alone(option: &[u8]) -> Request
+    ensures { λ r. ⌜ r ≡ alone (now (option .entry)) ⌝ }
+{
+    if check::same(option, b"--operator") {
+        return Request::Printout {
+            audience: Audience::Operator,
+        };
+    }
+    if check::same(option, b"--help") {
+        return Request::Help;
+    }
+    Request::Unknown
+}
+
+// What an option with a number asks for.
+fn option_with(option: &[u8], value: u32) -> Request
+    ensures { λ r. ⌜ r ≡ numbered (now (option .entry)) value ⌝ }
+{
+    if check::same(option, b"--sure") {
+        return Request::Forecast { ticks: value };
+    }
+    if check::same(option, b"--tenant") {
+        return Request::Printout {
+            audience: Audience::Tenant { id: value },
+        };
+    }
+    Request::Unknown
+}
+
 // What the arguments ask for, of which there are so many, the program's name among them.
 fn request_of(count: usize, option: &[u8], number: &[u8]) -> Request
-    ensures { λ r. ⌜ Asks count (now (option .entry)) (now (number .entry)) r ⌝ }
+    ensures { λ r. ⌜ r ≡ asked count (now (option .entry)) (wordOf (now (number .entry))) ⌝ }
 {
     if count <= NO_ARGUMENTS {
-        return Request::Printout;
+        return Request::Printout {
+            audience: Audience::Caller,
+        };
     }
-    if count != OPTION {
-        return Request::Unknown;
+    if count == OPTION {
+        return option_alone(option);
     }
-    if !check::same(option, b"--sure") {
+    if count != NUMBERED {
         return Request::Unknown;
     }
     let word = parser::number(number);
     let Word::Number { value } = word else {
         return Request::Unknown;
     };
-    Request::Forecast { ticks: value }
+    option_with(option, value)
 }
 
 // No contract can say what the arguments are.
@@ -160,12 +211,23 @@ fn read_arguments() -> Request {
     request_of(os::arg_count(), &option[..first], &number[..second])
 }
 
+// What cannot be written is told on standard error.
+fn report(put: Writing) {
+    if let Writing::Failed = put {
+        os::fail(b"slots: standard output");
+    }
+}
+
 // The room for the text is more than the longest that is read, so that a longer one is seen to be longer. A program has no exit
-// status of its own to give; what cannot be read or written is told on standard error.
+// status of its own to give; what cannot be read is told on standard error.
 fn main() {
     let request = read_arguments();
     if let Request::Unknown = request {
-        io::write_all(STDERR_FILENO, b"usage: slots [--sure N]\n");
+        write_usage(STDERR_FILENO);
+        return;
+    }
+    if let Request::Help = request {
+        report(write_usage(STDOUT_FILENO));
         return;
     }
     let mut text = io::large_buffer();
@@ -174,8 +236,5 @@ fn main() {
         os::fail(b"slots: standard input");
         return;
     };
-    let put = write_requested(&text[..length], request);
-    if let Writing::Failed = put {
-        os::fail(b"slots: standard output");
-    }
+    report(write_requested(&text[..length], request));
 }

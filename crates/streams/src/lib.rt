@@ -58,12 +58,19 @@ pub fn read_text(room: &mut [u8]) -> Reading
     Reading::Bytes(length)
 }
 
-// Writes a whole text.
-pub fn write_text(text: &[u8]) -> Writing
+// Writes a whole text to a file that is open.
+pub fn write_to(file: i32, text: &[u8]) -> Writing
     ensures { λ r. ⌜ HandedOn r (now (text .entry)) ⌝ }
 {
-    if io::write_all(STDOUT_FILENO, text) {
+    if io::write_all(file, text) {
         return Writing::Bytes(text.len());
     }
     Writing::Failed
+}
+
+// Writes a whole text to standard output.
+pub fn write_text(text: &[u8]) -> Writing
+    ensures { λ r. ⌜ HandedOn r (now (text .entry)) ⌝ }
+{
+    write_to(STDOUT_FILENO, text)
 }

@@ -9,6 +9,7 @@ pub mod Touch
 pub mod PoolWritten
 pub mod DefinedCalls
 pub mod Runs
+pub mod SheetsOfRuns
 pub mod CodeStretches
 pub mod StandingPlaces
 pub mod UnusedPlaces

@@ -41,7 +41,7 @@ reached-from (begun {c} {t} e) = (c, t, e, here)
 reached-from (called run m) = let from = reached-from run in (from .0, from .1, from .2, callsFrom.called (from .3) m)
 
 -- the tables mean the core that the definitions reach
-reached-core : {t : Trace} {c : Control} {m : Tables} → Reached t c m → coreOf c m ≡ after scheduler (callsOf t)
+pub reached-core : {t : Trace} {c : Control} {m : Tables} → Reached t c m → coreOf c m ≡ after scheduler (callsOf t)
 reached-core {t} run =
     let from = reached-from run in
     from-core (from .3) ∙ ap (λ (x : Core). behind x (callsOf t)) (from .2)
@@ -67,7 +67,7 @@ unfolding CodeDefined coreAfter
 run-defined run = record { dealt = reached-trace (run .reached); core = reached-core (run .reached) }
 
 -- a place of a run is one of its history
-place-called : {r R : Run} → PlaceOf r R → Place (callsOf (r .trace)) (callsOf (R .trace))
+pub place-called : {r R : Run} → PlaceOf r R → Place (callsOf (r .trace)) (callsOf (R .trace))
 unfolding callsOf
 place-called run.end = end
 place-called (run.before m p) = before (place-called p)

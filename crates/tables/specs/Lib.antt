@@ -7,6 +7,7 @@ pub mod Invariant
 pub mod Numbers
 pub mod Promise
 pub mod Run
+pub mod RunSheets
 pub mod CallsFrom
 pub mod CodeStretch
 pub mod Places

@@ -1,18 +1,23 @@
 -- By which rule a slot goes, what makes it the first that applies, and whose id the outcome bears.
 -- By splitting the two tests, or the queue and the pool. Assumes nothing.
 use Prim.Native.Nat.{ℕ, zero, suc, _<_}
-use mathlib.Core.Path.{_≡_, refl}
+use mathlib.Core.Path.{_≡_, refl, ap}
+use mathlib.Core.Logic.{_≢_}
 use mathlib.Core.Bool.{Bool, true, false, cond}
 use mathlib.Core.List.{List, [], _∷_}
 use lib.Dec.{eqb}
 use Rattle.definitions.specs.declared.Packet.{Packet}
+use Rattle.definitions.specs.declared.Outcome.{Outcome}
+use Rattle.definitions.specs.declared.Outcome.the-variants.{Real, Dummy, Idle, None}
+use Rattle.definitions.specs.declared.Answer.the-variants.{Slot}
 use Rattle.definitions.specs.Sizes.{ids, firstCome}
 use Rattle.definitions.specs.Client.{Client, isPrivate}
 use Rattle.definitions.specs.Stock.{Stock}
 use Rattle.definitions.specs.State.{State}
 use Rattle.definitions.specs.Answers.{bears}
-use Rattle.definitions.specs.Tick.{anyBelow, contends, Rule, rule1, rule2, rule3, ruleOf, Turn, firstTurn, turnBy, turn, withoutPacket, sentFrom, sent}
-use Rattle.definitions.proofs.Laws.Tests.{cond-both}
+use Rattle.definitions.specs.Tick.{anyBelow, contends, Rule, rule1, rule2, rule3, ruleOf, Turn, firstTurn, turnBy, turn, padding, withoutPacket, sentFrom, sent}
+use Rattle.definitions.specs.Notes.{holder}
+use Rattle.definitions.proofs.Laws.Tests.{true-false, cond-both}
 use Rattle.definitions.proofs.Laws.Sums.{anyBelow-true, anyBelow-false}
 
 -- that a test holds of none of the ids
@@ -56,15 +61,38 @@ pub turn-rule : (s : State) → turn s .rule ≡ ruleOf s
 unfolding turn
 turn-rule s = turnBy-rule (ruleOf s) s
 
+isNone : Outcome → Bool
+isNone (Real id p added) = false
+isNone (Dummy id) = false
+isNone (Idle id) = false
+isNone None = true
+
+-- to show something of what a client sends, show it of each of the three
+pub sent-cases : (P : Outcome → Type 0) (id : ℕ) (c : Client) (k : Stock)
+    → ((p : Packet) (added : ℕ) → P (Real id p added)) → P (Dummy id) → P (Idle id)
+    → P (sent id c k)
+unfolding sent
+sent-cases P id c k real dummy idle = go (k .queue)
+  where
+    bare : (n : ℕ) → P (withoutPacket id n)
+    bare zero = idle
+    bare (suc n) = dummy
+
+    go : (q : List Packet) → P (sentFrom id c (k .pool) q)
+    go [] = bare (k .pool)
+    go (p ∷ ps) = real p (padding c p)
+
 -- an outcome of a client bears its id and no other, whatever it sends
 pub sent-bears : (id : ℕ) (c : Client) (k : Stock) (j : ℕ) → bears j (sent id c k) ≡ eqb id j
-unfolding sent bears
-sent-bears id c k j = go (k .queue)
-  where
-    dummy : (n : ℕ) → bears j (withoutPacket id n) ≡ eqb id j
-    dummy zero = refl
-    dummy (suc n) = refl
+unfolding bears
+sent-bears id c k j = sent-cases (λ o. bears j o ≡ eqb id j) id c k (λ p added. refl) refl refl
 
-    go : (q : List Packet) → bears j (sentFrom id c (k .pool) q) ≡ eqb id j
-    go [] = dummy (k .pool)
-    go (p ∷ ps) = refl
+pub sent-holder : (id : ℕ) (c : Client) (k : Stock) → holder (Slot (sent id c k)) ≡ id
+unfolding holder
+sent-holder id c k = sent-cases (λ o. holder (Slot o) ≡ id) id c k (λ p added. refl) refl refl
+
+-- and is somebody's
+pub sent-somebody : (id : ℕ) (c : Client) (k : Stock) → sent id c k ≢ None
+unfolding isNone
+sent-somebody id c k e =
+    true-false (ap isNone e) (sent-cases (λ o. isNone o ≡ false) id c k (λ p added. refl) refl refl)

@@ -155,7 +155,7 @@ module _ (chosen : ℕ) where
 
   -- ---- a history and its kept calls
 
-  kept-alike : (h : History) → AlikeAt h (kept chosen (trace h))
+  pub kept-alike : (h : History) → AlikeAt h (kept chosen (trace h))
   unfolding kept after traceOf dealingAt
   kept-alike start = record { cores = refl; keeps = refl }
   kept-alike (h then c) = go (isStruck chosen (trace h) c) refl (kept-alike h)

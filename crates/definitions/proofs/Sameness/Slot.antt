@@ -98,7 +98,7 @@ module _ (chosen : ℕ) where
       erase-path chosen (slotted s t) (slotted (erase chosen s) t) refl refl refl refl refl (after-erased s (t .rule) (t .id))
 
   -- the outcome of the turn on a state and on its erasure: the same, unless the turn is a hidden client's
-  outcome-erased : (s : State) (r : Rule) (id : ℕ) → hidden chosen id (s .clients id) ≡ false
+  pub outcome-erased : (s : State) (r : Rule) (id : ℕ) → hidden chosen id (s .clients id) ≡ false
       → outcomeBy r id s ≡ outcomeBy r id (erase chosen s)
   unfolding outcomeBy erase
   outcome-erased s rule1 id e = ap (sent id (s .clients id)) (sym (shown-open chosen (s .clients) (s .side .stocks) id e))

@@ -46,9 +46,15 @@ module _ (chosen : ℕ) where
       go true q = q
       go false q = before q
 
+  -- where histories with equal kept calls have as many of them behind them, these are equal
+  pub kept-behind : {h k H K : History} → kept chosen (trace H) ≡ kept chosen (trace K) → Place h H → Place k K
+      → calls (kept chosen (trace h)) ≡ calls (kept chosen (trace k))
+      → kept chosen (trace h) ≡ kept chosen (trace k)
+  kept-behind e p q n = place-unique (place-kept p) (rw (sym e) at (place-kept q)) n
+
   -- ---- a client that is watched where it is the chosen one or indifferent
 
-  not-tick-struck : (h : History) (c : Event) → isStruck chosen (trace h) c ≡ true → isTick c ≡ false
+  pub not-tick-struck : (h : History) (c : Event) → isStruck chosen (trace h) c ≡ true → isTick c ≡ false
   unfolding isStruck isTick
   not-tick-struck h (Open t d v) e = refl
   not-tick-struck h (Join j k r b) e = refl
@@ -261,5 +267,4 @@ module _ (chosen : ℕ) where
 
 pub sameness : Sameness scheduler
 unfolding Sameness
-sameness chosen H K e h k p q n =
-    looks-same chosen h k (place-unique (place-kept chosen p) (rw (sym e) at (place-kept chosen q)) n)
+sameness chosen H K e h k p q n = looks-same chosen h k (kept-behind chosen e p q n)

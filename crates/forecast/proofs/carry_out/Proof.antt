@@ -6,6 +6,7 @@ use Prim.Native.Nat.{ℕ, _-_, _≤_}
 use mathlib.Core.Path.{_≡_, refl, _∙_}
 use mathlib.Core.List.{List}
 use lib.ListN.{length}
+use Rattle.grammar.specs.declared.Audience.the-variants.{Caller}
 use Rattle.printer.specs.Printed.{lineRoom}
 use Rattle.tables.specs.Tables.{tables}
 use Rattle.script.proofs.PiecesReached.{Reached, reached-first, reached-more, reached-core}
@@ -15,7 +16,7 @@ use Rattle.forecast.proofs.carry_out.Tie as tie
 abbrev Inv-loop : tie.InvT-loop
 Inv-loop text out₀ terms₀ stocks₀ handles₀ lengths₀ links₀ control₀ at₀ out terms stocks handles lengths links control at =
     (length out ≡ length out₀) × (lineRoom ≤ length out)
-    × (bytes : List ℕ) × Reached text bytes control (tables terms stocks handles lengths links) at
+    × (bytes : List ℕ) × Reached Caller text bytes control (tables terms stocks handles lengths links) at
 
 abbrev μ-loop : tie.MeasureT-loop
 μ-loop text out₀ terms₀ stocks₀ handles₀ lengths₀ links₀ control₀ at₀ out terms stocks handles lengths links control at =
@@ -32,7 +33,7 @@ loop-less c =
     let call = c .before .before .before in
     let inside = call .before .before .before .before .before .before .before in
     let inv = inside .before .loop .inv in
-    let same = call .piece .kept .1 .1 .0 in
+    let same = call .piece .kept .1 .1 .1 .0 in
     omega (arith, inside .loop-test .taken, call .piece .ensures .onward (inside .loop-test .taken) (omega (arith, same, inv .1)))
 
 loop-again : tie.Need-loop-again Inv-loop μ-loop
@@ -40,7 +41,7 @@ loop-again c =
     let call = c .before .before .before in
     let inside = call .before .before .before .before .before .before .before in
     let inv = inside .before .loop .inv in
-    let same = call .piece .kept .1 .1 .0 in
+    let same = call .piece .kept .1 .1 .1 .0 in
     (same ∙ inv .0, omega (arith, same, inv .1), _, reached-more (inv .3) (call .piece .ensures) (inside .loop-test .taken))
 
 same-length : tie.Need-same-length Inv-loop μ-loop

@@ -2,7 +2,8 @@
 use borrow.Author.Needs.{needs}
 use borrow.Author.Tests.{not-true, not-false}
 use Rattle.tables.specs.Tables.{tables}
-use Rattle.forecast.proofs.TellingLine.{line-unopened, line-opened, line-as}
+use Rattle.printer.proofs.LineRoom.{line-as}
+use Rattle.forecast.proofs.TellingLine.{line-unopened, line-opened}
 use Rattle.forecast.proofs.print_line.Statement.{statement}
 use Rattle.forecast.proofs.print_line.Tie as tie
 

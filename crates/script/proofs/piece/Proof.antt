@@ -16,23 +16,23 @@ use Rattle.script.proofs.piece.Statement.{statement}
 use Rattle.script.proofs.piece.Tie as tie
 
 abbrev Inv-loop : tie.InvT-loop
-Inv-loop text at out₀ terms₀ stocks₀ handles₀ lengths₀ links₀ core₀ place₀ written₀ out terms stocks handles lengths links core place
+Inv-loop audience text at out₀ terms₀ stocks₀ handles₀ lengths₀ links₀ core₀ place₀ written₀ out terms stocks handles lengths links core place
     written =
     let before = tables terms₀ stocks₀ handles₀ lengths₀ links₀ in
     let after = tables terms stocks handles lengths links in
     let sofar : Progress = record { control = core; next = place; written = written } in
     (length out ≡ length out₀)
-    × Walked text at core₀ before [] out sofar after
+    × Walked audience text at core₀ before [] out sofar after
     × (place ≤ at → written ≡ 0)
     × (length out < lineRoom → Unmoved at core₀ before sofar after)
     × (length text ≤ at → Unmoved at core₀ before sofar after)
 
 abbrev μ-loop : tie.MeasureT-loop
-μ-loop text at out₀ terms₀ stocks₀ handles₀ lengths₀ links₀ core₀ place₀ written₀ out terms stocks handles lengths links core place written =
+μ-loop audience text at out₀ terms₀ stocks₀ handles₀ lengths₀ links₀ core₀ place₀ written₀ out terms stocks handles lengths links core place written =
     length text - place
 
 loop-holds : tie.Need-loop-holds Inv-loop μ-loop
-loop-holds c = (refl, walked-none _ _ _ _ _ (c .before .before .pre), λ still. refl, λ little. (refl, refl), λ past. (refl, refl))
+loop-holds c = (refl, walked-none _ _ _ _ _ _ (c .before .before .pre), λ still. refl, λ little. (refl, refl), λ past. (refl, refl))
 
 goes-on-requires : tie.Need-goes-on-requires Inv-loop μ-loop
 goes-on-requires c κs = search needs
@@ -58,7 +58,7 @@ loop-less c =
 loop-again : tie.Need-loop-again Inv-loop μ-loop
 loop-again c =
     let line = c .before .before .before .line .ensures in
-    let same = c .before .before .before .line .kept .1 .1 .0 in
+    let same = c .before .before .before .line .kept .1 .1 .1 .0 in
     let test = c .before .before .before .before .before .before .before .before .before .before in
     let before = test .before .before .loop .inv in (
       search needs,

@@ -10,14 +10,23 @@ read-arguments-requires c κs = search needs
 enum-told : tie.Need-enum-told
 enum-told c = search needs
 
-slice-aggregate-write-all : tie.Need-slice-aggregate-write-all
-slice-aggregate-write-all c = search needs
-
-write-all-requires : tie.Need-write-all-requires
-write-all-requires c κs = search needs
+write-usage-requires : tie.Need-write-usage-requires
+write-usage-requires c κs = search needs
 
 returns : tie.Need-returns
 returns c = search needs
+
+enum-told-2 : tie.Need-enum-told-2
+enum-told-2 c = search needs
+
+write-usage-requires-2 : tie.Need-write-usage-requires-2
+write-usage-requires-2 c κs = search needs
+
+report-requires : tie.Need-report-requires
+report-requires c κs = search needs
+
+returns-2 : tie.Need-returns-2
+returns-2 c = search needs
 
 large-buffer-requires : tie.Need-large-buffer-requires
 large-buffer-requires c κs = search needs
@@ -31,8 +40,8 @@ read-text-requires c κs = search needs
 enum-known-got : tie.Need-enum-known-got
 enum-known-got c = search needs
 
-enum-told-2 : tie.Need-enum-told-2
-enum-told-2 c = search needs
+enum-told-3 : tie.Need-enum-told-3
+enum-told-3 c = search needs
 
 slice-aggregate-fail : tie.Need-slice-aggregate-fail
 slice-aggregate-fail c = search needs
@@ -40,8 +49,8 @@ slice-aggregate-fail c = search needs
 fail-requires : tie.Need-fail-requires
 fail-requires c κs = search needs
 
-returns-2 : tie.Need-returns-2
-returns-2 c = search needs
+returns-3 : tie.Need-returns-3
+returns-3 c = search needs
 
 array-share-prefix-text : tie.Need-array-share-prefix-text
 array-share-prefix-text c =
@@ -54,20 +63,8 @@ slice-aggregate-write-requested c =
 write-requested-requires : tie.Need-write-requested-requires
 write-requested-requires c κs = search needs
 
-enum-told-3 : tie.Need-enum-told-3
-enum-told-3 c = search needs
-
-slice-aggregate-fail-2 : tie.Need-slice-aggregate-fail-2
-slice-aggregate-fail-2 c = search needs
-
-fail-requires-2 : tie.Need-fail-requires-2
-fail-requires-2 c κs = search needs
-
-enum-told-4 : tie.Need-enum-told-4
-enum-told-4 c = search needs
-
-returns-3 : tie.Need-returns-3
-returns-3 c = search needs
+report-requires-2 : tie.Need-report-requires-2
+report-requires-2 c κs = search needs
 
 returns-4 : tie.Need-returns-4
 returns-4 c = search needs
@@ -78,23 +75,22 @@ main-spec =
     (tie.spec
     read-arguments-requires
     enum-told
-    slice-aggregate-write-all
-    write-all-requires
+    write-usage-requires
     returns
+    enum-told-2
+    write-usage-requires-2
+    report-requires
+    returns-2
     large-buffer-requires
     slice-aggregate-read-text
     read-text-requires
     enum-known-got
-    enum-told-2
+    enum-told-3
     slice-aggregate-fail
     fail-requires
-    returns-2
+    returns-3
     array-share-prefix-text
     slice-aggregate-write-requested
     write-requested-requires
-    enum-told-3
-    slice-aggregate-fail-2
-    fail-requires-2
-    enum-told-4
-    returns-3
+    report-requires-2
     returns-4)
