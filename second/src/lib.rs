@@ -1,5 +1,6 @@
 //! The slot core of paper 01, as amended by S-1, S-4, S-6 and S-9 of paper 02, its script, the
-//! figure of S-14, the fair rates of S-8 and the sheets of S-5, written from these words alone.
+//! figure of S-14, the fair rates of S-8 and the sheets of S-5, written from these words and, for
+//! the sentences of the sheets, the manual's alone.
 
 pub mod core;
 pub mod fair;

@@ -8,16 +8,13 @@ use lib.Dec.{eqb}
 use borrow.Author.Tests.{eq-eqb, ne-eqb, lt-ltb}
 use Rattle.definitions.specs.declared.Outcome.{Outcome}
 use Rattle.definitions.specs.declared.Answer.the-variants.{Slot}
-use Rattle.definitions.specs.declared.Note.{Note}
-use Rattle.definitions.specs.declared.Note.the-variants.{Told, ToIndifferent, ToAnother}
-use Rattle.definitions.specs.declared.Reason.{Reason}
+use Rattle.definitions.specs.declared.Note.the-variants.{Told}
 use Rattle.definitions.specs.Sizes.{ids, firstCome}
-use Rattle.definitions.specs.Sample.{counted, sampleFrom, sample}
 use Rattle.definitions.specs.Draw.{draw}
-use Rattle.definitions.specs.Client.{Kind, indifferent, private, isIndifferent, isPrivate}
+use Rattle.definitions.specs.Client.{indifferent, private, isIndifferent, isPrivate}
 use Rattle.definitions.specs.State.{State, running}
 use Rattle.definitions.specs.Checks.{firstFailed, activeChecks}
-use Rattle.definitions.specs.Tick.{Rule, rule1, rule2, rule3, ruleOf, Turn, firstTurn, turnBy, turn, outcomeBy, sent, onTick}
+use Rattle.definitions.specs.Tick.{Rule, rule1, rule2, rule3, ruleOf, firstTurn, turnBy, turn, outcomeBy, sent, onTick}
 use Rattle.definitions.specs.Core.{step}
 use Rattle.definitions.specs.Limits.{StateLimits}
 use Rattle.definitions.specs.Notes.{reasonOf, noteOf, operatorNote, holder, wentTo, seenBy, tenantChecks, tenantSeen, tenantNote}

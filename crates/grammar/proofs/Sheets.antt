@@ -3,7 +3,7 @@
 use Prim.Native.Nat.{ℕ, zero, suc, _≤_}
 use mathlib.Core.Path.{_≡_, refl, sym, ap, _∙_}
 use mathlib.Core.Bool.{Bool, true, false, cond}
-use mathlib.Core.List.{List, [], _∷_, _++_, map, zip, zipWith, flatten, reverse, reverseAux, reverseAux-append, reverse-reverse}
+use mathlib.Core.List.{List, [], _∷_, map, zip, zipWith, flatten, reverse, reverseAux, reverseAux-append, reverse-reverse}
 use native.Mathlib.Omega.{arith}
 use lib.ListN.{length, take}
 use Rattle.definitions.specs.declared.Answer.{Answer}

@@ -11,8 +11,8 @@ use Rattle.grammar.specs.Numerals.{decimal}
 use Rattle.grammar.specs.Printout.{printed}
 use Rattle.printer.specs.Appended.{Appended}
 
--- The room of a line. The longest is the sentence of a packet that was drawn: of its outcome 57 bytes of words, three numbers of ten
--- digits and a handle of twenty, and of its draw 40 bytes, a target of ten digits and a sum of twenty.
+-- The room of a line. The longest is the sentence of a packet that was drawn: of its outcome a template of 57 bytes, three numbers of ten
+-- digits and a handle of twenty, and of its draw one of 40, a target of ten digits and a sum of twenty.
 abbrev pub outcomeRoom : ℕ
 outcomeRoom = 112
 

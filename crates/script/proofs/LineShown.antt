@@ -1,11 +1,10 @@
 -- What a line shows, read off the definitions, for each audience: a line without a form and a call that is no tick show their answer
 -- to the caller, and a tick shows what its answer and its draws tell. Assumes nothing.
-use Prim.Native.Nat.{ℕ, _+_}
+use Prim.Native.Nat.{ℕ}
 use mathlib.Core.Path.{_≡_, refl, ap, ap₂}
 use mathlib.Core.Bool.{false}
 use mathlib.Core.List.{List, []}
 use native.Mathlib.Omega.{arith}
-use lib.ListN.{length}
 use Rattle.definitions.specs.declared.Answer.{Answer}
 use Rattle.definitions.specs.declared.Answer.the-variants.{Refused}
 use Rattle.definitions.specs.Sample.{Sample}
@@ -22,7 +21,7 @@ use Rattle.grammar.specs.declared.Call.the-variants.{Tick as TickCall}
 use Rattle.grammar.specs.declared.Line.the-variants.{Form, Refused as Unread}
 use Rattle.grammar.specs.Calls.{eventOf}
 use Rattle.grammar.specs.Printout.{printed, answered, shown}
-use Rattle.printer.specs.Printed.{lineRoom, LineWritten}
+use Rattle.printer.specs.Printed.{LineWritten}
 use Rattle.script.specs.Shown.{answerFor, tickFor}
 
 pub unread-shown : (to : Audience) (core : Core) (n : ℕ) → answerFor to (Refused n) ≡ shown to core (Unread n)

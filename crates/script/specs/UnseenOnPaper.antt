@@ -42,8 +42,8 @@ pub record UnseenOnPaper : Type 0 where
       → CallsFrom Meets c u second e w
       → callsOf second ≡ callsOf first
       → linesOf second ≡ linesOf first
-  -- Both are given the same text from the same place on, for the same audience, in pieces of any length. Wherever both have come to the same place, the
-  -- same bytes were written, and the cores mean the same.
+  -- Both are given the same text from the same place on, for the same audience, in pieces of any length. Wherever both have come
+  -- to the same place, the same bytes were written, and the cores mean the same.
   pub script : (to : Audience) (text : List ℕ) (from : ℕ) (c : Control) (t u : Tables)
       → Valid c t
       → DifferUnused c t u

@@ -34,7 +34,7 @@ const NO_FORM: u32 = 16;
 
 const TOO_LONG: u32 = 18;
 
-// How far a script was read: the control there, the place behind the last line, and how many bytes its answers took.
+// How far a script was read: the control there, the place behind the last line, and how many bytes were written.
 pub struct Progress {
     pub control: Control,
     pub next: usize,
@@ -309,15 +309,15 @@ fn line(
         links,
         call,
     );
-    let after = shown.control;
+    let left = shown.control;
     Progress {
-        control: after,
+        control: left,
         next,
         written: shown.written,
     }
 }
 
-// Whether a line stands at a place, and its answer has room behind what was written.
+// Whether a line stands at a place, and a line's room is left behind what was written.
 fn goes_on(text: &[u8], at: usize, size: usize, written: usize) -> bool
     ensures { λ r. ⌜ r ≡ (not (isEnd (now (text .entry)) at) && leb (written + lineRoom) size) ⌝ }
 {
@@ -347,7 +347,7 @@ pub fn start(text: &[u8], out: &mut [u8]) -> Progress
     }
 }
 
-// The lines from a place on whose answers have room, written from the start of the buffer.
+// The lines from a place on, while a line's room is left, written from the start of the buffer.
 pub fn piece(
     audience: Audience,
     text: &[u8],

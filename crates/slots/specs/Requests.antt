@@ -1,6 +1,6 @@
 -- What the arguments ask for, and the bytes that are then written behind a text: without any its printout, with an option another
 -- sheet or the forecast, and with any others nothing.
-use Prim.Native.Nat.{ℕ, zero, suc}
+use Prim.Native.Nat.{ℕ}
 use mathlib.Core.Bool.{Bool, true, false, cond, _&&_}
 use mathlib.Core.List.{List, [], _∷_}
 use lib.Dec.{eqb, leb}
@@ -36,7 +36,7 @@ abbrev pub withWord : List ℕ → Word → Request
 withWord option (Number value) = numbered option value
 withWord option Other = Unknown
 
--- the request of so many arguments, the program's name among them, of which these are the first two behind it
+-- the request of so many arguments, the program's name among them: the first behind it is the option, the second reads as a word
 unfoldable pub asked : ℕ → List ℕ → Word → Request
 asked count option word =
     cond (leb count 1) (Printout Caller) (cond (eqb count 2) (alone option) (cond (eqb count 3) (withWord option word) Unknown))

@@ -227,7 +227,7 @@ fn main() {
         return;
     }
     if let Request::Help = request {
-        report(write_usage(STDOUT_FILENO));
+        report(write_requested(b"", request));
         return;
     }
     let mut text = io::large_buffer();

@@ -10,9 +10,9 @@ use Rattle.definitions.specs.declared.Note.{Note}
 use Rattle.definitions.specs.State.{Core}
 use Rattle.definitions.specs.Event.{Event, Open, Join, Change, Leave, Load, Arrive, Tick}
 use Rattle.definitions.specs.Core.{step}
-use Rattle.definitions.specs.History.{History, calls, drawsOf, Trace, scheduler, after, traceOf}
+use Rattle.definitions.specs.History.{calls, drawsOf, Trace, scheduler, after, traceOf}
 use Rattle.definitions.specs.Sameness.{isTick, kept}
-use Rattle.definitions.specs.Notes.{noteOf, operatorNote, tenantSeen, tenantNote}
+use Rattle.definitions.specs.Notes.{operatorNote, tenantSeen, tenantNote}
 use Rattle.definitions.specs.TenantSheet.{notesOf, TenantSheets}
 use Rattle.definitions.proofs.Laws.Tests.{true-false}
 use Rattle.definitions.proofs.Sameness.TenantSheets.{tenant-sheets}

@@ -2,31 +2,29 @@
 -- client is told by its type alone. So a history and the history of its kept calls have one sheet. Assumes nothing.
 use Prim.Native.Nat.{ℕ}
 use mathlib.Core.Path.{_≡_, refl, sym, ap, ap₂, _∙_}
-use mathlib.Core.Bool.{Bool, true, false, cond, not, _&&_}
-use mathlib.Core.List.{List, [], _∷_}
+use mathlib.Core.Bool.{Bool, true, false, cond, not}
+use mathlib.Core.List.{List, _∷_}
 use lib.Dec.{eqb}
 use borrow.Author.Tests.{not-true}
-use Rattle.definitions.specs.declared.Packet.{Packet}
 use Rattle.definitions.specs.declared.Outcome.{Outcome}
 use Rattle.definitions.specs.declared.Answer.the-variants.{Slot}
 use Rattle.definitions.specs.declared.Note.{Note}
 use Rattle.definitions.specs.declared.Note.the-variants.{ToAnother}
-use Rattle.definitions.specs.Event.{Event}
 use Rattle.definitions.specs.Sample.{Sample}
-use Rattle.definitions.specs.Client.{Client, isPrivate}
+use Rattle.definitions.specs.Client.{isPrivate}
 use Rattle.definitions.specs.Stock.{Stock}
 use Rattle.definitions.specs.State.{State, Core, unopened, running}
 use Rattle.definitions.specs.Checks.{firstFailed, activeChecks}
-use Rattle.definitions.specs.Tick.{Rule, rule1, rule2, rule3, Turn, turn, outcomeBy, sent, onTick}
+use Rattle.definitions.specs.Tick.{Rule, rule1, rule2, rule3, turn, outcomeBy, sent, onTick}
 use Rattle.definitions.specs.Core.{step}
 use Rattle.definitions.specs.History.{History, start, _then_, scheduler, after, dealingAt, traceOf}
 use Rattle.definitions.specs.Sameness.{isTick, isStruck, kept}
-use Rattle.definitions.specs.Notes.{noteOf, holder, wentTo, seenBy, tenantChecks, unlessRefused, tenantSeen, tenantNote}
+use Rattle.definitions.specs.Notes.{seenBy, tenantChecks, unlessRefused, tenantSeen, tenantNote}
 use Rattle.definitions.specs.TenantSheet.{notesOf, TenantSheets}
 use Rattle.definitions.proofs.Laws.Tests.{true-false, and-both}
 use Rattle.definitions.proofs.Laws.Kinds.{private-kind}
 use Rattle.definitions.proofs.Laws.Rules.{sent-holder}
-use Rattle.definitions.proofs.Sameness.Erase.{hidden, shown, erase, eraseCore}
+use Rattle.definitions.proofs.Sameness.Erase.{hidden, erase, eraseCore}
 use Rattle.definitions.proofs.Sameness.Slot.{turn-erased, outcome-erased}
 use Rattle.definitions.proofs.Sameness.Kinds.{trace}
 use Rattle.definitions.proofs.Sameness.Histories.{AlikeAt, kept-alike}

@@ -1,12 +1,12 @@
 -- `notes::tenant` meets its contract: each return is told by the test that led to it. Assumes nothing.
 use borrow.Author.Needs.{needs}
 use native.Mathlib.Omega.{arith}
-use Prim.Native.Nat.{_≤_, _<_}
+use Prim.Native.Nat.{_<_}
 use mathlib.Core.Path.{_≡_, sym, _∙_}
 use mathlib.Core.Logic.{_≢_}
 use mathlib.Core.Bool.{false}
 use Rattle.definitions.specs.Sizes.{ids}
-use Rattle.definitions.specs.Notes.{noteOf, holder}
+use Rattle.definitions.specs.Notes.{holder}
 use Rattle.draw.specs.Samples.{drawsTold}
 use Rattle.marks.specs.Marks.{marked}
 use Rattle.notes.proofs.TenantSlot.{told-refused, told-own, told-nobody, told-indifferent, told-another, told-neither}

@@ -1,9 +1,8 @@
 -- `printer::put_reason` meets its contract: an arm of the code writes the words of its reason. Assumes nothing.
 use borrow.Author.Needs.{needs}
-use Prim.Native.Nat.{ℕ, _+_, _≤_}
-use mathlib.Core.Path.{ap, subst}
+use Prim.Native.Nat.{ℕ}
+use mathlib.Core.Path.{ap}
 use mathlib.Core.List.{List}
-use lib.ListN.{length}
 use Rattle.definitions.specs.declared.Reason.{Reason}
 use Rattle.grammar.specs.Sentences.{reasonText}
 use Rattle.printer.proofs.Appending.{appended-as}

@@ -19,8 +19,11 @@ returns c = search needs
 enum-told-2 : tie.Need-enum-told-2
 enum-told-2 c = search needs
 
-write-usage-requires-2 : tie.Need-write-usage-requires-2
-write-usage-requires-2 c κs = search needs
+slice-aggregate-write-requested : tie.Need-slice-aggregate-write-requested
+slice-aggregate-write-requested c = search needs
+
+write-requested-requires : tie.Need-write-requested-requires
+write-requested-requires c κs = search needs
 
 report-requires : tie.Need-report-requires
 report-requires c κs = search needs
@@ -56,12 +59,12 @@ array-share-prefix-text : tie.Need-array-share-prefix-text
 array-share-prefix-text c =
     let got = c .before in omega (arith, rw (got .got .given .1) at (got .before .before .before .read-text .ensures))
 
-slice-aggregate-write-requested : tie.Need-slice-aggregate-write-requested
-slice-aggregate-write-requested c =
+slice-aggregate-write-requested-2 : tie.Need-slice-aggregate-write-requested-2
+slice-aggregate-write-requested-2 c =
     let got = c .before .before in (rw (got .got .given .1) at (got .before .before .before .read-text .ensures)) .1
 
-write-requested-requires : tie.Need-write-requested-requires
-write-requested-requires c κs = search needs
+write-requested-requires-2 : tie.Need-write-requested-requires-2
+write-requested-requires-2 c κs = search needs
 
 report-requires-2 : tie.Need-report-requires-2
 report-requires-2 c κs = search needs
@@ -78,7 +81,8 @@ main-spec =
     write-usage-requires
     returns
     enum-told-2
-    write-usage-requires-2
+    slice-aggregate-write-requested
+    write-requested-requires
     report-requires
     returns-2
     large-buffer-requires
@@ -90,7 +94,7 @@ main-spec =
     fail-requires
     returns-3
     array-share-prefix-text
-    slice-aggregate-write-requested
-    write-requested-requires
+    slice-aggregate-write-requested-2
+    write-requested-requires-2
     report-requires-2
     returns-4)
