@@ -4,17 +4,21 @@ use Prim.Native.Nat.{ℕ, _<_}
 use mathlib.Core.Path.{_≡_, refl, sym, ap, ap₂, _∙_}
 use mathlib.Core.Logic.{_≢_}
 use mathlib.Core.Bool.{Bool, true, false, cond, true≢false, false≢true}
+use mathlib.Core.List.{List}
 use lib.Dec.{eqb}
 use borrow.Author.Tests.{eq-eqb, ne-eqb, lt-ltb}
 use Rattle.definitions.specs.declared.Outcome.{Outcome}
+use Rattle.definitions.specs.declared.Answer.{Answer}
 use Rattle.definitions.specs.declared.Answer.the-variants.{Slot}
 use Rattle.definitions.specs.declared.Note.the-variants.{Told}
 use Rattle.definitions.specs.Sizes.{ids, firstCome}
+use Rattle.definitions.specs.Sample.{Sample}
 use Rattle.definitions.specs.Draw.{draw}
-use Rattle.definitions.specs.Client.{indifferent, private, isIndifferent, isPrivate}
-use Rattle.definitions.specs.State.{State, running}
+use Rattle.definitions.specs.Client.{indifferent, private, isIndifferent, isPrivate, refilled}
+use Rattle.definitions.specs.State.{State, Core, unopened, running, updated}
 use Rattle.definitions.specs.Checks.{firstFailed, activeChecks}
-use Rattle.definitions.specs.Tick.{Rule, rule1, rule2, rule3, ruleOf, firstTurn, turnBy, turn, outcomeBy, sent, onTick}
+use Rattle.definitions.specs.Tick.{Rule, rule1, rule2, rule3, ruleOf, firstTurn, turnBy, turn, outcomeBy, sent, refillAll, slotted, onTick}
+use Rattle.definitions.specs.Event.{Tick}
 use Rattle.definitions.specs.Core.{step}
 use Rattle.definitions.specs.Limits.{StateLimits}
 use Rattle.definitions.specs.Notes.{reasonOf, noteOf, operatorNote, holder, wentTo, seenBy, tenantChecks, tenantSeen, tenantNote}
@@ -96,6 +100,13 @@ module _ (s : State) where
           (λ none noneSecret f. true-false (ap isPrivate own) (noneSecret id below))
           e;
     }
+
+-- a tick leaves every client's kind as it was, and so what a tenant is told of an answer and draws
+pub seen-after : (id : ℕ) (core : Core) (answer : Answer) (draws : List Sample)
+    → tenantSeen id (step core Tick .core) answer draws ≡ tenantSeen id core answer draws
+unfolding tenantSeen step onTick slotted updated refillAll refilled seenBy tenantChecks activeChecks
+seen-after id unopened answer draws = refl
+seen-after id (running s) answer draws = refl
 
 pub notes-told : NotesTold
 notes-told = record { operator = operator-told; tenant = λ s id known below own. tenant-told s id known below own }

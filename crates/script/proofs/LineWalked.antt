@@ -1,13 +1,16 @@
 -- What a line of the code leaves: the walk is one line further, whether its bytes were no line, held no form, or held a call that
 -- was carried out. Assumes nothing.
 use Prim.Native.Nat.{ℕ, suc, _+_, _-_, _≤_, _<_}
-use mathlib.Core.Path.{_≡_, refl, sym, ap, subst, _∙_}
+use mathlib.Core.Path.{_≡_, refl, sym, ap, ap₂, subst, _∙_}
+use mathlib.Core.Bool.{Bool}
 use mathlib.Core.List.{List, _++_}
 use native.Mathlib.Omega.{arith}
 use lib.ListN.{length, take, drop, length-drop}
 use lib.Seq.{take-all}
+use Rattle.definitions.specs.Sameness.{isTick}
+use Rattle.grammar.specs.Calls.{eventOf}
 use Rattle.grammar.specs.declared.Call.{Call}
-use Rattle.definitions.specs.declared.Answer.the-variants.{Refused}
+use Rattle.definitions.specs.declared.Answer.{Answer}
 use Rattle.definitions.specs.State.{Core}
 use Rattle.grammar.specs.declared.Line.{Line}
 use Rattle.grammar.specs.declared.Line.the-variants.{Form, Refused as Unread}
@@ -25,10 +28,11 @@ use Rattle.tables.specs.Invariant.{Valid}
 use Rattle.reader.specs.declared.Span.{Span}
 use Rattle.reader.specs.LineSpans.{between, spanAt, LineEnd}
 use Rattle.reader.proofs.LineEnds.{span-end, span-feed, span-last}
-use Rattle.script.specs.declared.Shown.{Shown}
-use Rattle.script.specs.Shown.{answerFor, CallShown}
+use Rattle.draw.specs.Samples.{drawsTold}
+use Rattle.slot.specs.declared.Ticked.{Ticked}
+use Rattle.script.specs.Shown.{PerformedCall, unreadFor, callFor}
 use Rattle.script.specs.Pieces.{ahead, coreBehind, Walked}
-use Rattle.script.proofs.LineShown.{unread-shown}
+use Rattle.script.proofs.LineShown.{unread-shown, call-shown}
 use Rattle.script.proofs.LinePrinted.{closed-printed, closed-core, open-printed, open-core}
 
 module _ (to : Audience) (text : List ℕ) (at : ℕ) (out : List ℕ) (written : ℕ) (c : Control) (t : Tables)
@@ -68,7 +72,7 @@ module _ (to : Audience) (text : List ℕ) (at : ℕ) (out : List ℕ) (written 
       )
 
   -- bytes behind the last line feed
-  pub walked-open : {new : List ℕ} {more : ℕ} → Valid c t → end ≡ length text → LineWritten (answerFor to (Refused 16)) out written new more
+  pub walked-open : {new : List ℕ} {more : ℕ} → Valid c t → end ≡ length text → LineWritten (unreadFor to 16) out written new more
       → Further new more c t
   walked-open {new} {more} valid e p =
       let whole = subst Unbroken (take-all (end - at) (drop at text) (omega (arith, length-drop at text, e))) (l .unbroken) in
@@ -100,14 +104,24 @@ module _ (to : Audience) (text : List ℕ) (at : ℕ) (out : List ℕ) (written 
 
     -- a line without a form
     pub walked-unread : {new : List ℕ} {more : ℕ} (n : ℕ) → Valid c t → parsed (between text at end) ≡ Unread n
-        → LineWritten (answerFor to (Refused n)) out written new more
+        → LineWritten (unreadFor to n) out written new more
         → Further new more c t
     unfolding answered
     walked-unread n valid held p = closed p (Unread n) held c t valid (unread-shown to (coreOf c t) n) refl
 
     -- a line with a form
-    pub walked-form : {new : List ℕ} (call : Call) → parsed (between text at end) ≡ Form call
-        → (r : Shown) (u : Tables) → CallShown to call c t out written new r u
-        → Further new (r .written) (r .control) u
+    pub walked-form : {new : List ℕ} {more : ℕ} (call : Call) → parsed (between text at end) ≡ Form call
+        → (r : Ticked) (u : Tables) → PerformedCall call c t r u
+        → (ticked : Bool) → ticked ≡ isTick (eventOf call)
+        → LineWritten (callFor to ticked (coreOf (r .answered .control) u) (r .answered .answer) (drawsTold (r .sample))) out written
+        new more
+        → Further new more (r .answered .control) u
     unfolding answered
-    walked-form call held r u m = closed (m .written) (Form call) held (r .control) u (m .valid) refl (m .core)
+    walked-form call held r u done ticked e p =
+        let meets = done .promised .meets in
+        let draws = drawsTold (r .sample) in
+        closed p (Form call) held (r .answered .control) u (meets .valid)
+        (ap (λ (b : Bool). callFor to b (coreOf (r .answered .control) u) (r .answered .answer) draws) e
+        ∙ ap₂ (λ (core : Core) (a : Answer). callFor to (isTick (eventOf call)) core a draws) (meets .core) (meets .answer)
+        ∙ call-shown (coreOf c t) draws to call (done .draws))
+        (meets .core)

@@ -2,41 +2,41 @@
 -- (paper 02, S-5).
 use Prim.Native.Nat.{ℕ}
 use mathlib.Core.Path.{_≡_}
+use mathlib.Core.Bool.{Bool, true, cond}
 use mathlib.Core.List.{List, []}
 use Rattle.definitions.specs.declared.Answer.{Answer}
+use Rattle.definitions.specs.declared.Answer.the-variants.{Refused}
 use Rattle.definitions.specs.Sample.{Sample}
 use Rattle.definitions.specs.State.{Core}
-use Rattle.definitions.specs.Core.{step}
+use Rattle.definitions.specs.History.{drawsOf}
+use Rattle.definitions.specs.Sameness.{isTick}
 use Rattle.definitions.specs.Notes.{noteOf, tenantSeen}
 use Rattle.grammar.specs.declared.Audience.{Audience}
 use Rattle.grammar.specs.declared.Audience.the-variants.{Caller, Operator, Tenant}
 use Rattle.grammar.specs.declared.Call.{Call}
-use Rattle.grammar.specs.declared.Line.the-variants.{Form}
 use Rattle.grammar.specs.Calls.{eventOf}
 use Rattle.grammar.specs.Sentences.{sentence}
-use Rattle.grammar.specs.Printout.{printed, shown}
-use Rattle.printer.specs.Printed.{LineWritten}
+use Rattle.grammar.specs.Printout.{printed}
+use Rattle.draw.specs.Samples.{drawsTold}
+use Rattle.slot.specs.declared.Ticked.{Ticked}
 use Rattle.tables.specs.declared.Control.{Control}
 use Rattle.tables.specs.Tables.{Tables}
 use Rattle.tables.specs.Meaning.{coreOf}
-use Rattle.tables.specs.Invariant.{Valid}
-use Rattle.script.specs.declared.Shown.{Shown}
+use Rattle.tables.specs.Places.{Promised}
 
--- of a line that holds no tick
-abbrev pub answerFor : Audience → Answer → List ℕ
-answerFor Caller answer = printed answer
-answerFor Operator answer = []
-answerFor (Tenant id) answer = []
+-- a call was carried out as it is promised; and of a tick the sample tells what was drawn
+pub record PerformedCall (call : Call) (c : Control) (t : Tables) (r : Ticked) (u : Tables) : Type 0 where
+  pub promised : Promised (eventOf call) c t (r .answered) u
+  pub draws : isTick (eventOf call) ≡ true → drawsTold (r .sample) ≡ drawsOf (coreOf c t)
 
--- of a tick that gave an answer by some draws on a core
-abbrev pub tickFor : Audience → Core → Answer → List Sample → List ℕ
-tickFor Caller core answer draws = printed answer
-tickFor Operator core answer draws = sentence (noteOf answer draws)
-tickFor (Tenant id) core answer draws = sentence (tenantSeen id core answer draws)
+-- of a line that holds no form
+abbrev pub unreadFor : Audience → ℕ → List ℕ
+unreadFor Caller number = printed (Refused number)
+unreadFor Operator number = []
+unreadFor (Tenant id) number = []
 
--- a call was carried out on control c and tables t, which are then those of r and u, and what it shows was written from a place on
-pub record CallShown (to : Audience) (call : Call) (c : Control) (t : Tables) (before : List ℕ) (at : ℕ) (after : List ℕ)
-    (r : Shown) (u : Tables) : Type 0 where
-  pub written : LineWritten (shown to (coreOf c t) (Form call)) before at after (r .written)
-  pub core : coreOf (r .control) u ≡ step (coreOf c t) (eventOf call) .core
-  pub valid : Valid (r .control) u
+-- of a call that gave an answer and left a core, by some draws if it is a tick
+abbrev pub callFor : Audience → Bool → Core → Answer → List Sample → List ℕ
+callFor Caller ticked core answer draws = printed answer
+callFor Operator ticked core answer draws = cond ticked (sentence (noteOf answer draws)) []
+callFor (Tenant id) ticked core answer draws = cond ticked (sentence (tenantSeen id core answer draws)) []

@@ -1,23 +1,29 @@
 // A script in pieces: from a place on, each line is parsed and carried out. For the caller one line is printed in answer to it; for the
 // operator, or a private tenant, only ticks print one.
 use definitions::Answer;
+use definitions::Note;
 use draw::Sample;
+use generator::Generator;
 use grammar::Audience;
 use grammar::Call;
 use grammar::Line;
 use grammar::TEXT_LIMIT;
 use order::LINKS;
+use slot::Ticked;
 use tables::Answered;
 use tables::Control;
 use tables::STOCKS;
 use tables::STORE;
 use tables::TERMS;
 ghost use mathlib.Core.Path.{_≡_};
-ghost use mathlib.Core.Bool.{_&&_, not};
+ghost use mathlib.Core.Bool.{cond, _&&_, not};
+ghost use mathlib.Core.List.{[]};
 ghost use lib.Dec.{leb};
 ghost use lib.ListN.{length, take};
 ghost use Prim.Native.Nat.{_+_, _≤_, _<_};
+ghost use Rattle.definitions.specs.Sameness.{isTick};
 ghost use Rattle.grammar.specs.Calls.{eventOf};
+ghost use Rattle.grammar.specs.Sentences.{sentence};
 ghost use Rattle.draw.specs.Samples.{drawsTold};
 ghost use Rattle.printer.specs.Printed.{lineRoom, LineWritten};
 ghost use Rattle.reader.specs.LineSpans.{isEnd};
@@ -26,7 +32,7 @@ ghost use Rattle.tables.specs.Meaning.{coreOf};
 ghost use Rattle.tables.specs.Invariant.{Valid};
 ghost use Rattle.tables.specs.Places.{Promised};
 ghost use Rattle.script.specs.UnreadLine.{unreadNumber};
-ghost use Rattle.script.specs.Shown.{answerFor, tickFor, CallShown};
+ghost use Rattle.script.specs.Shown.{PerformedCall, unreadFor, callFor};
 ghost use Rattle.script.specs.Pieces.{Walked, Piece, Start};
 
 // What bytes that are no form are answered with, and a text that is too long.
@@ -39,6 +45,107 @@ pub struct Progress {
     pub control: Control,
     pub next: usize,
     pub written: usize,
+}
+
+// An answer beside which nothing was drawn.
+fn undrawn(answered: Answered, generator: Generator) -> Ticked
+    ensures { λ r. ⌜ r .answered ≡ answered ⌝ }
+{
+    Ticked {
+        answered,
+        sample: draw::undrawn(generator),
+    }
+}
+
+// Carries a call out, and gives beside its answer what a tick drew.
+fn perform_told(
+    control: Control,
+    terms: &mut [u32; TERMS],
+    stocks: &mut [u32; STOCKS],
+    handles: &mut [u64; STORE],
+    lengths: &mut [u16; STORE],
+    links: &mut [u32; LINKS],
+    call: Call,
+) -> Ticked
+    requires { ⌜ Valid control (tables (now terms) (now stocks) (now handles) (now lengths) (now links)) ⌝ }
+    ensures { λ r. ⌜ PerformedCall call control
+        (tables (now (terms .entry)) (now (stocks .entry)) (now (handles .entry)) (now (lengths .entry)) (now (links .entry))) r
+        (tables (now (terms .exit)) (now (stocks .exit)) (now (handles .exit)) (now (lengths .exit)) (now (links .exit))) ⌝ }
+{
+    let generator = control.generator;
+    match call {
+        Call::Open {
+            threshold,
+            discipline,
+            seed,
+        } => undrawn(
+            opening::open(
+                control,
+                terms,
+                stocks,
+                handles,
+                lengths,
+                links,
+                threshold,
+                discipline,
+                seed,
+            ),
+            generator,
+        ),
+        Call::Join {
+            id,
+            kind,
+            rate,
+            burst,
+        } => undrawn(
+            settings::join(
+                control,
+                terms,
+                stocks,
+                handles,
+                lengths,
+                links,
+                id,
+                kind,
+                rate,
+                burst,
+            ),
+            generator,
+        ),
+        Call::Change {
+            id,
+            kind,
+            rate,
+            burst,
+        } => undrawn(
+            settings::change(
+                control,
+                terms,
+                stocks,
+                handles,
+                lengths,
+                links,
+                id,
+                kind,
+                rate,
+                burst,
+            ),
+            generator,
+        ),
+        Call::Leave { id } => undrawn(
+            settings::leave(control, terms, stocks, handles, lengths, links, id),
+            generator,
+        ),
+        Call::Load { id, dummies } => undrawn(
+            traffic::load(control, terms, stocks, handles, lengths, links, id, dummies),
+            generator,
+        ),
+        Call::Arrive { id, packet } => undrawn(
+            traffic::arrive(control, terms, stocks, handles, lengths, links, id, packet),
+            generator,
+        ),
+        Call::Tick => slot::tick(control, terms, stocks, handles, lengths, links),
+    }
 }
 
 // Carries a call out.
@@ -56,82 +163,8 @@ pub fn perform(
         (tables (now (terms .entry)) (now (stocks .entry)) (now (handles .entry)) (now (lengths .entry)) (now (links .entry))) r
         (tables (now (terms .exit)) (now (stocks .exit)) (now (handles .exit)) (now (lengths .exit)) (now (links .exit))) ⌝ }
 {
-    match call {
-        Call::Open {
-            threshold,
-            discipline,
-            seed,
-        } => opening::open(
-            control,
-            terms,
-            stocks,
-            handles,
-            lengths,
-            links,
-            threshold,
-            discipline,
-            seed,
-        ),
-        Call::Join {
-            id,
-            kind,
-            rate,
-            burst,
-        } => settings::join(
-            control,
-            terms,
-            stocks,
-            handles,
-            lengths,
-            links,
-            id,
-            kind,
-            rate,
-            burst,
-        ),
-        Call::Change {
-            id,
-            kind,
-            rate,
-            burst,
-        } => settings::change(
-            control,
-            terms,
-            stocks,
-            handles,
-            lengths,
-            links,
-            id,
-            kind,
-            rate,
-            burst,
-        ),
-        Call::Leave { id } => settings::leave(control, terms, stocks, handles, lengths, links, id),
-        Call::Load { id, dummies } => traffic::load(
-            control,
-            terms,
-            stocks,
-            handles,
-            lengths,
-            links,
-            id,
-            dummies,
-        ),
-        Call::Arrive { id, packet } => traffic::arrive(
-            control,
-            terms,
-            stocks,
-            handles,
-            lengths,
-            links,
-            id,
-            packet,
-        ),
-        Call::Tick => {
-            let ticked = slot::tick(control, terms, stocks, handles, lengths, links);
-            ticked.answered
-        }
-    }
+    let told = perform_told(control, terms, stocks, handles, lengths, links, call);
+    told.answered
 }
 
 // The number that a line without a form is answered with.
@@ -144,114 +177,58 @@ fn unread_number(read: Line) -> u32
     }
 }
 
-// What a call that was carried out leaves: the control, and how many bytes are written with what it shows.
-struct Shown {
-    control: Control,
-    written: usize,
-}
-
-// Writes what a line without a tick shows: its answer, to the caller alone.
-fn print_answer(audience: Audience, out: &mut [u8], at: usize, answer: Answer) -> usize
-    ensures { λ r. ⌜ LineWritten (answerFor audience answer) (now (out .entry)) at (now (out .exit)) r ⌝ }
+// Writes what a line without a form shows: its number, to the caller alone.
+fn print_unread(audience: Audience, out: &mut [u8], at: usize, number: u32) -> usize
+    ensures { λ r. ⌜ LineWritten (unreadFor audience number) (now (out .entry)) at (now (out .exit)) r ⌝ }
 {
     match audience {
-        Audience::Caller => printer::print(out, at, answer),
+        Audience::Caller => printer::print_refused(out, at, number),
         Audience::Operator => at,
         Audience::Tenant { id: _ } => at,
     }
 }
 
-// Writes what a tick shows, on the control before it.
-fn print_tick(
-    audience: Audience,
-    out: &mut [u8],
-    at: usize,
-    control: Control,
-    answer: Answer,
-    sample: Sample,
-) -> usize
-    ensures { λ r. ⌜ ((t : Tables) → LineWritten (tickFor audience (coreOf control t) answer (drawsTold sample))
-        (now (out .entry)) at (now (out .exit)) r) ⌝ }
+// Whether a call is a tick.
+fn is_tick(call: Call) -> bool
+    ensures { λ r. ⌜ r ≡ isTick (eventOf call) ⌝ }
 {
-    match audience {
-        Audience::Caller => printer::print(out, at, answer),
-        Audience::Operator => printer::print_note(out, at, notes::operator(answer, sample)),
-        Audience::Tenant { id } => {
-            let note = notes::tenant(id, control, answer, sample);
-            printer::print_note(out, at, note)
-        }
+    if let Call::Tick = call {
+        return true;
     }
+    false
 }
 
-// Carries a tick out, and writes what it shows.
-fn show_tick(
-    audience: Audience,
-    out: &mut [u8],
-    at: usize,
-    control: Control,
-    terms: &mut [u32; TERMS],
-    stocks: &mut [u32; STOCKS],
-    handles: &[u64; STORE],
-    lengths: &[u16; STORE],
-    links: &mut [u32; LINKS],
-) -> Shown
-    requires { ⌜ Valid control (tables (now terms) (now stocks) (now handles) (now lengths) (now links)) ⌝ }
-    ensures { λ r. ⌜ CallShown audience Call.Tick control
-        (tables (now (terms .entry)) (now (stocks .entry)) (now (handles .entry)) (now (lengths .entry)) (now (links .entry)))
-        (now (out .entry)) at (now (out .exit)) r
-        (tables (now (terms .exit)) (now (stocks .exit)) (now (handles .exit)) (now (lengths .exit)) (now (links .exit))) ⌝ }
+// Writes a note, if it is of a tick.
+fn print_tick(out: &mut [u8], at: usize, ticked: bool, note: Note) -> usize
+    ensures { λ r. ⌜ LineWritten (cond ticked (sentence note) []) (now (out .entry)) at (now (out .exit)) r ⌝ }
 {
-    let ticked = slot::tick(control, terms, stocks, handles, lengths, links);
-    let answered = ticked.answered;
-    let answer = answered.answer;
-    let after = answered.control;
-    let sample = ticked.sample;
-    let written = print_tick(audience, out, at, control, answer, sample);
-    Shown {
-        control: after,
-        written,
+    if !ticked {
+        return at;
     }
+    printer::print_note(out, at, note)
 }
 
-// Carries a call out, and writes what it shows.
+// Writes what a call shows that was carried out. A tick leaves every client's type as it was, so the control after it tells a tenant the
+// same as the one before, which nobody has to keep meanwhile.
 fn show(
     audience: Audience,
     out: &mut [u8],
     at: usize,
     control: Control,
-    terms: &mut [u32; TERMS],
-    stocks: &mut [u32; STOCKS],
-    handles: &mut [u64; STORE],
-    lengths: &mut [u16; STORE],
-    links: &mut [u32; LINKS],
-    call: Call,
-) -> Shown
-    requires { ⌜ Valid control (tables (now terms) (now stocks) (now handles) (now lengths) (now links)) ⌝ }
-    ensures { λ r. ⌜ CallShown audience call control
-        (tables (now (terms .entry)) (now (stocks .entry)) (now (handles .entry)) (now (lengths .entry)) (now (links .entry)))
-        (now (out .entry)) at (now (out .exit)) r
-        (tables (now (terms .exit)) (now (stocks .exit)) (now (handles .exit)) (now (lengths .exit)) (now (links .exit))) ⌝ }
+    ticked: bool,
+    answer: Answer,
+    sample: Sample,
+) -> usize
+    ensures { λ r. ⌜ ((t : Tables) → LineWritten (callFor audience ticked (coreOf control t) answer (drawsTold sample))
+        (now (out .entry)) at (now (out .exit)) r) ⌝ }
 {
-    if let Call::Tick = call {
-        return show_tick(
-            audience,
-            out,
-            at,
-            control,
-            terms,
-            stocks,
-            handles,
-            lengths,
-            links,
-        );
-    }
-    let answered = perform(control, terms, stocks, handles, lengths, links, call);
-    let answer = answered.answer;
-    let after = answered.control;
-    let written = print_answer(audience, out, at, answer);
-    Shown {
-        control: after,
-        written,
+    match audience {
+        Audience::Caller => printer::print(out, at, answer),
+        Audience::Operator => print_tick(out, at, ticked, notes::operator(answer, sample)),
+        Audience::Tenant { id } => {
+            let note = notes::tenant(id, control, answer, sample);
+            print_tick(out, at, ticked, note)
+        }
     }
 }
 
@@ -280,7 +257,7 @@ fn line(
     let end = span.end;
     let next = span.next;
     if end == text.len() {
-        let more = print_answer(audience, out, written, Answer::Refused { number: NO_FORM });
+        let more = print_unread(audience, out, written, NO_FORM);
         return Progress {
             control,
             next,
@@ -290,30 +267,24 @@ fn line(
     let read = parser::parse(&text[at..end]);
     let Line::Form { call } = read else {
         let number = unread_number(read);
-        let more = print_answer(audience, out, written, Answer::Refused { number });
+        let more = print_unread(audience, out, written, number);
         return Progress {
             control,
             next,
             written: more,
         };
     };
-    let shown = show(
-        audience,
-        out,
-        written,
-        control,
-        terms,
-        stocks,
-        handles,
-        lengths,
-        links,
-        call,
-    );
-    let left = shown.control;
+    let ticked = is_tick(call);
+    let told = perform_told(control, terms, stocks, handles, lengths, links, call);
+    let answered = told.answered;
+    let answer = answered.answer;
+    let left = answered.control;
+    let sample = told.sample;
+    let more = show(audience, out, written, left, ticked, answer, sample);
     Progress {
         control: left,
         next,
-        written: shown.written,
+        written: more,
     }
 }
 

@@ -19,8 +19,8 @@ ends c = span-end _ _ _ (c .line-at .ensures) (omega arith)
 line-at-requires : tie.Need-line-at-requires
 line-at-requires c κs = search needs
 
-print-answer-requires : tie.Need-print-answer-requires
-print-answer-requires c κs = search needs
+print-unread-requires : tie.Need-print-unread-requires
+print-unread-requires c κs = search needs
 
 same-length : tie.Need-same-length
 same-length c = search needs
@@ -31,7 +31,7 @@ returns c =
     let start = found .before .before .before in
     walked-open _ _ _ _ _ _ _ (start .pre .1) (start .pre .2) _ (found .line-at .ensures) (start .pre .0)
     (c .before .before .before .before .if1 .taken)
-    (c .before .before .print-answer .ensures)
+    (c .before .before .print-unread .ensures)
 
 sub-parse : tie.Need-sub-parse
 sub-parse c = let end = ends (c .before) in omega arith
@@ -54,8 +54,8 @@ enum-told c = search needs
 unread-number-requires : tie.Need-unread-number-requires
 unread-number-requires c κs = search needs
 
-print-answer-requires-2 : tie.Need-print-answer-requires-2
-print-answer-requires-2 c κs = search needs
+print-unread-requires-2 : tie.Need-print-unread-requires-2
+print-unread-requires-2 c κs = search needs
 
 same-length-2 : tie.Need-same-length-2
 same-length-2 c = search needs
@@ -71,7 +71,13 @@ returns-2 c =
     let none = told .enum-told .given .1 in
     let number = c .before .before .before .before .unread-number .ensures ∙ ap unreadNumber none in
     walked-unread _ _ _ _ _ _ _ (start .pre .1) (start .pre .2) _ (found .line-at .ensures) (omega (arith, within)) _
-    (start .pre .0) (sym (parsed .parse .ensures) ∙ none ∙ ap Unread (sym number)) (c .before .before .print-answer2 .ensures)
+    (start .pre .0) (sym (parsed .parse .ensures) ∙ none ∙ ap Unread (sym number)) (c .before .before .print-unread2 .ensures)
+
+is-tick-requires : tie.Need-is-tick-requires
+is-tick-requires c κs = search needs
+
+perform-told-requires : tie.Need-perform-told-requires
+perform-told-requires c κs = search needs
 
 show-requires : tie.Need-show-requires
 show-requires c κs = search needs
@@ -81,19 +87,22 @@ same-length-3 c = search needs
 
 returns-3 : tie.Need-returns-3
 returns-3 c =
-    let shown = c .before .before .before in
-    let read = shown .before .before .before .before .before .before .before .before in
+    let performed = c .before .before .before .before .before .before .before in
+    let asked = performed .before .before .before .before .before .before in
+    let read = asked .before .before in
     let parsed = read .before .before in
     let found = parsed .before .before .before in
     let start = found .before .before .before in
     let within = ends found .within in
     let more = parsed .before .before .if1 .left in
     walked-form _ _ _ _ _ _ _ (start .pre .1) (start .pre .2) _ (found .line-at .ensures) (omega (arith, within)) _
-    (sym (parsed .parse .ensures) ∙ read .read .given .1) _ _ (shown .show .ensures)
+    (sym (parsed .parse .ensures) ∙ read .read .given .1) _ _ (performed .perform-told .ensures)
+    _ (asked .is-tick .ensures)
+    (c .before .before .show .ensures _)
 
 pub line-spec : {M : Type 1} → statement M
 line-spec =
     tie.close
-    (tie.spec line-at-requires print-answer-requires same-length returns sub-parse part-parse-start part-parse-end parse-requires
-    enum-known-read enum-told unread-number-requires print-answer-requires-2 same-length-2 returns-2 show-requires same-length-3
-    returns-3)
+    (tie.spec line-at-requires print-unread-requires same-length returns sub-parse part-parse-start part-parse-end parse-requires
+    enum-known-read enum-told unread-number-requires print-unread-requires-2 same-length-2 returns-2 is-tick-requires perform-told-requires
+    show-requires same-length-3 returns-3)

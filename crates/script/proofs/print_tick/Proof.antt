@@ -1,54 +1,23 @@
--- `script::print_tick` meets its contract: an arm for each audience, with the note that it is told. Assumes nothing.
+-- `script::print_tick` meets its contract: only a tick's note is written. Assumes nothing.
 use borrow.Author.Needs.{needs}
+use borrow.Author.Tests.{not-true, not-false}
+use Rattle.script.proofs.LineShown.{nothing-written}
 use Rattle.script.proofs.print_tick.Statement.{statement}
 use Rattle.script.proofs.print_tick.Tie as tie
 
-enum-told : tie.Need-enum-told
-enum-told c = search needs
-
-print-requires : tie.Need-print-requires
-print-requires c κs = search needs
-
-enum-told-2 : tie.Need-enum-told-2
-enum-told-2 c = search needs
-
-operator-requires : tie.Need-operator-requires
-operator-requires c κs = search needs
+returns : tie.Need-returns
+returns c = rw (not-true (c .before .before .args .ticked) (c .if1 .taken)) (nothing-written _ _)
 
 print-note-requires : tie.Need-print-note-requires
 print-note-requires c κs = search needs
 
-enum-known-audience : tie.Need-enum-known-audience
-enum-known-audience c = search needs
-
-tenant-requires : tie.Need-tenant-requires
-tenant-requires c κs = search needs
-
-print-note-requires-2 : tie.Need-print-note-requires-2
-print-note-requires-2 c κs = search needs
-
 same-length : tie.Need-same-length
 same-length c = search needs
 
-returns : tie.Need-returns
-returns c t = rw (c .before .before .before .before .enum-told .given .1) (c .before .before .print .ensures)
-
-same-length-2 : tie.Need-same-length-2
-same-length-2 c = search needs
-
 returns-2 : tie.Need-returns-2
-returns-2 c t =
-    rw (c .before .before .before .before .before .enum-told2 .given .1) (rw (c .before .before .before .operator .ensures) at (c .before .before .print-note .ensures))
-
-same-length-3 : tie.Need-same-length-3
-same-length-3 c = search needs
-
-returns-3 : tie.Need-returns-3
-returns-3 c t =
-    rw (c .before .before .before .before .before .before .audience .given .1) (rw (c .before .before .before .before .tenant .ensures t) at (c .before .before .print-note2 .ensures))
+returns-2 c =
+    let test = c .before .before .before .before in
+    rw (not-false (test .before .before .args .ticked) (test .if1 .left)) (c .before .before .print-note .ensures)
 
 pub print-tick-spec : {M : Type 1} → statement M
-print-tick-spec =
-    tie.close
-    (tie.spec enum-told print-requires enum-told-2 operator-requires print-note-requires enum-known-audience tenant-requires
-    print-note-requires-2 same-length returns same-length-2 returns-2 same-length-3 returns-3)
+print-tick-spec = tie.close (tie.spec returns print-note-requires same-length returns-2)
