@@ -61,6 +61,14 @@ draw-draws generator weight some = drawnAt-draws weight _ (sample-below (sumBelo
 unfoldable pub weighing : (ℕ → Bool) → (ℕ → ℕ) → ℕ → ℕ
 weighing test rate id = cond (test id) (rate id) 0
 
+-- where one of the ids that pass a test has a rate, they weigh something together
+pub weighing-some : (test : ℕ → Bool) (rate : ℕ → ℕ) (id : ℕ) → id < ids → test id ≡ true → 1 ≤ rate id
+    → 0 < sumBelow ids (weighing test rate)
+unfolding weighing
+weighing-some test rate id below passes some =
+    let own : weighing test rate id ≡ rate id = rw passes in
+    omega (arith, sumBelow-part ids id (weighing test rate) below)
+
 -- a draw among the ids that pass a test, where one of them has a rate, draws one of them
 pub draw-among : (test : ℕ → Bool) (rate : ℕ → ℕ) (generator id : ℕ)
     → id < ids
@@ -73,16 +81,11 @@ draw-among test rate generator id below passes some = (d .below, go (test drawn)
     weight : ℕ → ℕ
     weight = weighing test rate
 
-    weighs : 0 < sumBelow ids weight
-    weighs =
-        let own : weight id ≡ rate id = rw passes in
-        omega (arith, sumBelow-part ids id weight below)
-
     drawn : ℕ
     drawn = draw generator weight .id
 
     d : Drawing ids weight (draw generator weight .sample .target) drawn
-    d = draw-draws generator weight weighs
+    d = draw-draws generator weight (weighing-some test rate id below passes some)
 
     go : (b : Bool) → test drawn ≡ b → 0 < cond b (rate drawn) 0 → test drawn ≡ true
     go true e h = e

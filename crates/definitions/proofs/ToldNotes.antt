@@ -4,22 +4,22 @@ use Prim.Native.Nat.{ℕ, _<_}
 use mathlib.Core.Path.{_≡_, refl, sym, ap, ap₂, _∙_}
 use mathlib.Core.Logic.{_≢_}
 use mathlib.Core.Bool.{Bool, true, false, cond, true≢false, false≢true}
-use mathlib.Core.List.{List}
 use lib.Dec.{eqb}
 use borrow.Author.Tests.{eq-eqb, ne-eqb, lt-ltb}
 use Rattle.definitions.specs.declared.Outcome.{Outcome}
 use Rattle.definitions.specs.declared.Answer.{Answer}
 use Rattle.definitions.specs.declared.Answer.the-variants.{Slot}
+use Rattle.definitions.specs.declared.Reason.{Reason}
 use Rattle.definitions.specs.declared.Note.the-variants.{Told}
 use Rattle.definitions.specs.Sizes.{ids, firstCome}
-use Rattle.definitions.specs.Sample.{Sample}
 use Rattle.definitions.specs.Draw.{draw}
 use Rattle.definitions.specs.Client.{indifferent, private, isIndifferent, isPrivate, refilled}
 use Rattle.definitions.specs.State.{State, Core, unopened, running, updated}
 use Rattle.definitions.specs.Checks.{firstFailed, activeChecks}
 use Rattle.definitions.specs.Tick.{Rule, rule1, rule2, rule3, ruleOf, firstTurn, turnBy, turn, outcomeBy, sent, refillAll, slotted, onTick}
-use Rattle.definitions.specs.Event.{Tick}
+use Rattle.definitions.specs.Event.{Event, Open, Join, Change, Leave, Load, Arrive, Tick}
 use Rattle.definitions.specs.Core.{step}
+use Rattle.definitions.specs.Sameness.{isTick}
 use Rattle.definitions.specs.Limits.{StateLimits}
 use Rattle.definitions.specs.Notes.{reasonOf, noteOf, operatorNote, holder, wentTo, seenBy, tenantChecks, tenantSeen, tenantNote}
 use Rattle.definitions.specs.TenantSheet.{OperatorTold, TenantTold, NotesTold}
@@ -70,7 +70,7 @@ module _ (s : State) where
 
   module _ (id : ℕ) (known : StateLimits s) (below : id < ids) (own : s .clients id .kind ≡ private) where
     -- no check fails
-    seen-slot : tenantNote id (running s) ≡ seenBy s id (onTick s .answer) (turn s .draws)
+    seen-slot : tenantNote id (running s) ≡ seenBy s id (onTick s .answer) (reasonOf (turn s .draws))
     unfolding tenantNote tenantSeen tenantChecks firstFailed activeChecks step
     seen-slot = rw (lt-ltb id ids below, own)
 
@@ -101,12 +101,23 @@ module _ (s : State) where
           e;
     }
 
--- a tick leaves every client's kind as it was, and so what a tenant is told of an answer and draws
-pub seen-after : (id : ℕ) (core : Core) (answer : Answer) (draws : List Sample)
-    → tenantSeen id (step core Tick .core) answer draws ≡ tenantSeen id core answer draws
+-- of a tick alone anything is told
+pub tick-event : (call : Event) → isTick call ≡ true → call ≡ Tick
+unfolding isTick
+tick-event (Open threshold discipline seed) e = true-false e refl
+tick-event (Join id kind rate burst) e = true-false e refl
+tick-event (Change id kind rate burst) e = true-false e refl
+tick-event (Leave id) e = true-false e refl
+tick-event (Load id dummies) e = true-false e refl
+tick-event (Arrive id packet) e = true-false e refl
+tick-event Tick e = refl
+
+-- a tick leaves every client's kind as it was, and so what a tenant is told of an answer and a reason
+pub seen-after : (id : ℕ) (core : Core) (answer : Answer) (reason : Reason)
+    → tenantSeen id (step core Tick .core) answer reason ≡ tenantSeen id core answer reason
 unfolding tenantSeen step onTick slotted updated refillAll refilled seenBy tenantChecks activeChecks
-seen-after id unopened answer draws = refl
-seen-after id (running s) answer draws = refl
+seen-after id unopened answer reason = refl
+seen-after id (running s) answer reason = refl
 
 pub notes-told : NotesTold
 notes-told = record { operator = operator-told; tenant = λ s id known below own. tenant-told s id known below own }

@@ -27,14 +27,14 @@ reasonOf [] = Undrawn
 reasonOf (s ∷ more) = Drawn (s .target) (s .sum)
 
 -- "the outcome, its fields and, if there was a draw, target and rate sum"; of what is no slot, its number
-unfoldable pub noteOf : Answer → List Sample → Note
-noteOf Accepted draws = Refusal (number Accepted)
-noteOf (Refused n) draws = Refusal (number (Refused n))
-noteOf (Slot outcome) draws = Told outcome (reasonOf draws)
+unfoldable pub noteOf : Answer → Reason → Note
+noteOf Accepted reason = Refusal (number Accepted)
+noteOf (Refused n) reason = Refusal (number (Refused n))
+noteOf (Slot outcome) reason = Told outcome reason
 
 -- "For each tick the operator's sheet has one English sentence": what it tells of a tick on a core
 unfoldable pub operatorNote : Core → Note
-operatorNote core = noteOf (step core Tick .answer) (drawsOf core)
+operatorNote core = noteOf (step core Tick .answer) (reasonOf (drawsOf core))
 
 -- whose slot it was; of nobody's, and of what is no slot, a number that no client has
 unfoldable pub holder : Answer → ℕ
@@ -52,9 +52,9 @@ wentTo indifferent whole = ToIndifferent
 wentTo private whole = ToAnother
 
 -- "its own slot in the operator's sentence"
-unfoldable pub seenBy : State → ℕ → Answer → List Sample → Note
-seenBy s id answer draws =
-    cond (eqb (holder answer) id) (noteOf answer draws) (wentTo (s .clients (holder answer) .kind) (noteOf answer draws))
+unfoldable pub seenBy : State → ℕ → Answer → Reason → Note
+seenBy s id answer reason =
+    cond (eqb (holder answer) id) (noteOf answer reason) (wentTo (s .clients (holder answer) .kind) (noteOf answer reason))
 
 -- "for an id not active then it gives 5, for an indifferent one 11"
 unfoldable pub tenantChecks : State → ℕ → List Check
@@ -64,11 +64,11 @@ abbrev pub unlessRefused : ℕ → Note → Note
 unlessRefused zero note = note
 unlessRefused (suc n) note = Refusal (suc n)
 
--- what a tenant is told where a tick on a core gave an answer by some draws
-unfoldable pub tenantSeen : ℕ → Core → Answer → List Sample → Note
-tenantSeen id unopened answer draws = Refusal 19
-tenantSeen id (running s) answer draws = unlessRefused (firstFailed (tenantChecks s id)) (seenBy s id answer draws)
+-- what a tenant is told where a tick on a core gave an answer for a reason
+unfoldable pub tenantSeen : ℕ → Core → Answer → Reason → Note
+tenantSeen id unopened answer reason = Refusal 19
+tenantSeen id (running s) answer reason = unlessRefused (firstFailed (tenantChecks s id)) (seenBy s id answer reason)
 
 -- "A private tenant's own sheet has a sentence a tick too": what it tells of a tick on a core
 unfoldable pub tenantNote : ℕ → Core → Note
-tenantNote id core = tenantSeen id core (step core Tick .answer) (drawsOf core)
+tenantNote id core = tenantSeen id core (step core Tick .answer) (reasonOf (drawsOf core))

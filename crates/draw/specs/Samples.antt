@@ -1,5 +1,6 @@
 -- A sample of the code is one of the definitions: "the target, the new generator state and the number of steps taken"
 -- (paper 02, S-1). Without a step nothing was drawn.
+use Prim.Native.Nat.{ℕ}
 use mathlib.Core.Path.{_≡_}
 use mathlib.Core.Bool.{cond}
 use mathlib.Core.List.{List, [], _∷_}
@@ -19,6 +20,16 @@ abbrev pub drawsTold : Given → List Sample
 drawsTold r =
     cond (eqb (r .steps) 0) []
     (record { target = r .target; sum = r .sum; generator = r .generator .value; steps = r .steps } ∷ [])
+
+-- the sum of the rates in a draw; 0 where there was none
+abbrev pub sumOf : List Sample → ℕ
+sumOf [] = 0
+sumOf (d ∷ draws) = d .sum
+
+-- a sample of the code stands for some draws, and its sum for theirs, also where there was none
+pub record StandsFor (r : Given) (draws : List Sample) : Type 0 where
+  pub told : drawsTold r ≡ draws
+  pub sum : r .sum ≡ sumOf draws
 
 -- the sample of no draw: the generator is as it was
 abbrev pub Undrawn : Generator → Given → Type 0

@@ -63,7 +63,7 @@ fn is_thrown(value: u32, total: u64, steps: u32) -> bool
 }
 
 // The remainder of a value; all of it, where the total is 0.
-fn remainder(value: u32, total: u64) -> u32
+pub fn remainder(value: u32, total: u64) -> u32
     ensures { λ r. ⌜ r ≡ value % total ⌝ }
 {
     if total == 0 {

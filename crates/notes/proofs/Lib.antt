@@ -1,1 +1,2 @@
+pub mod ReasonLeft
 pub mod TenantSlot

@@ -5,36 +5,38 @@ use definitions::IDS;
 use definitions::Note;
 use definitions::Outcome;
 use definitions::Reason;
-use draw::Sample;
 use tables::Control;
 ghost use mathlib.Core.Path.{_≡_};
-ghost use Rattle.definitions.specs.Notes.{reasonOf, noteOf, holder, tenantChecks, tenantSeen};
-ghost use Rattle.draw.specs.Samples.{drawsTold};
+ghost use Rattle.definitions.specs.Notes.{noteOf, holder, tenantChecks, tenantSeen};
 ghost use Rattle.tables.specs.Tables.{Tables};
 ghost use Rattle.tables.specs.Meaning.{coreOf};
 ghost use Rattle.tables.specs.Numbers.{refusal};
+ghost use Rattle.notes.specs.ReasonLeft.{reasonLeft};
 
 // What a sheet of an indifferent client is refused with.
 const INDIFFERENT: u32 = 11;
 
-// By which draw a slot went, if there was one.
-fn reason_of(sample: Sample) -> Reason
-    ensures { λ r. ⌜ r ≡ reasonOf (drawsTold sample) ⌝ }
+// By which draw a slot went, if there was one: from the control after it and the sum of the rates in the draw, 0 where there was none.
+pub fn reason(control: Control, sum: u64) -> Reason
+    ensures { λ r. ⌜ ((t : Tables) → r ≡ reasonLeft sum (coreOf control t)) ⌝ }
 {
-    if sample.steps == 0 {
+    if !control.opened {
         return Reason::Undrawn;
     }
+    if sum == 0 {
+        return Reason::Undrawn;
+    }
+    let generator = control.generator;
     Reason::Drawn {
-        target: sample.target,
-        sum: sample.sum,
+        target: draw::remainder(generator.value, sum),
+        sum,
     }
 }
 
-// What the operator is told where a tick gave an answer and a sample.
-pub fn operator(answer: Answer, sample: Sample) -> Note
-    ensures { λ r. ⌜ r ≡ noteOf answer (drawsTold sample) ⌝ }
+// What the operator is told where a tick gave an answer for a reason.
+pub fn operator(answer: Answer, reason: Reason) -> Note
+    ensures { λ r. ⌜ r ≡ noteOf answer reason ⌝ }
 {
-    let reason = reason_of(sample);
     match answer {
         Answer::Accepted => Note::Refusal { number: 0 },
         Answer::Refused { number } => Note::Refusal { number },
@@ -75,15 +77,15 @@ fn tenant_number(control: Control, id: u32) -> u32
     0
 }
 
-// What a tenant is told where a tick gave an answer and a sample; the control is the one before the tick. Refused: 19, 4, 5, 11.
-pub fn tenant(id: u32, control: Control, answer: Answer, sample: Sample) -> Note
-    ensures { λ r. ⌜ ((t : Tables) → r ≡ tenantSeen id (coreOf control t) answer (drawsTold sample)) ⌝ }
+// What a tenant is told where a tick gave an answer for a reason; the control is the one before the tick. Refused: 19, 4, 5, 11.
+pub fn tenant(id: u32, control: Control, answer: Answer, reason: Reason) -> Note
+    ensures { λ r. ⌜ ((t : Tables) → r ≡ tenantSeen id (coreOf control t) answer reason) ⌝ }
 {
     let number = tenant_number(control, id);
     if number != 0 {
         return Note::Refusal { number };
     }
-    let whole = operator(answer, sample);
+    let whole = operator(answer, reason);
     let holder = holder_of(answer);
     if holder == id {
         return whole;

@@ -1,3 +1,4 @@
 pub mod Appending
+pub mod Filling
 pub mod FilledLength
 pub mod LineRoom

@@ -4,7 +4,6 @@ use Prim.Native.Nat.{ℕ, _+_, _-_, _≤_, _<_}
 use mathlib.Core.Path.{_≡_}
 use mathlib.Core.List.{List, _++_}
 use lib.ListN.{length}
-use Rattle.definitions.specs.declared.Packet.{Packet}
 use Rattle.definitions.specs.declared.Answer.{Answer}
 use Rattle.grammar.specs.Bytes.{bytes}
 use Rattle.grammar.specs.Numerals.{decimal}
@@ -29,12 +28,6 @@ pub record LineWritten (line before : List ℕ) (at : ℕ) (after : List ℕ) (e
 -- the line of an answer
 abbrev pub Printed : Answer → List ℕ → ℕ → List ℕ → ℕ → Type 0
 Printed answer = LineWritten (printed answer)
-
--- the fields of a packet that was sent, with texts before and between them, and behind the last
-abbrev pub fieldsText : List ℕ → List ℕ → List ℕ → List ℕ → List ℕ → ℕ → Packet → ℕ → List ℕ
-fieldsText first second third fourth last id packet padding =
-    (first ++ decimal id)
-    ++ ((second ++ decimal (packet .handle)) ++ ((third ++ decimal (packet .length)) ++ ((fourth ++ decimal padding) ++ last)))
 
 -- the line of a text and two numbers: "one blank between" them
 abbrev pub pairLine : List ℕ → ℕ → ℕ → List ℕ

@@ -7,21 +7,28 @@ use definitions::Packet;
 use definitions::Reason;
 ghost use Prim.Native.Nat.{_+_, _/_, _%_, _≤_, _<_};
 ghost use mathlib.Core.Path.{_≡_};
+ghost use mathlib.Core.Bool.{_&&_};
 ghost use mathlib.Core.List.{[], _∷_, _++_};
-ghost use lib.Dec.{leb};
+ghost use lib.Dec.{leb, ltb};
 ghost use lib.ListN.{length};
 ghost use Rattle.grammar.specs.Numerals.{decimal};
+ghost use Rattle.grammar.specs.Templates.{isGap, filled};
 ghost use Rattle.grammar.specs.Printout.{printed};
 ghost use Rattle.grammar.specs.Sentences.{outcomeText, drawnText, reasonText, sentence};
 ghost use Rattle.grammar.specs.Forecast.{sureLine};
 ghost use Rattle.grammar.specs.FairSheet.{rateLine};
 ghost use Rattle.printer.specs.Appended.{Appended};
-ghost use Rattle.printer.specs.Printed.{outcomeRoom, reasonRoom, lineRoom, LineWritten, Printed, fieldsText, wordRoom, pairLine};
+ghost use Rattle.printer.specs.Printed.{outcomeRoom, reasonRoom, lineRoom, LineWritten, Printed, wordRoom, pairLine};
 
 // The room that a line is given. No line is longer, whatever its numbers.
 pub const LINE_ROOM: usize = 192;
 
 const ZERO: u64 = 48;
+
+// The gaps of a template: for a number of a call, and for a handle.
+const NUMBER: u8 = b'#';
+
+const HANDLE: u8 = b'@';
 
 // Whether a line's room is left behind a place, with no sum that could wrap.
 pub fn has_room(size: usize, at: usize) -> bool
@@ -103,28 +110,16 @@ fn put_between(out: &mut [u8], at: usize, before: &[u8], n: u32, behind: &[u8]) 
     put(out, end, behind)
 }
 
-// Writes the fields of a packet that was sent, each between two texts.
-fn put_fields(
-    out: &mut [u8],
-    at: usize,
-    first: &[u8],
-    second: &[u8],
-    third: &[u8],
-    fourth: &[u8],
-    last: &[u8],
-    id: u32,
-    packet: Packet,
-    padding: u32,
-) -> usize
-    requires { ⌜ at + length (fieldsText (now first) (now second) (now third) (now fourth) (now last) id packet padding)
-        ≤ length (now out) ⌝ }
-    ensures { λ r. ⌜ Appended (fieldsText (now (first .entry)) (now (second .entry)) (now (third .entry)) (now (fourth .entry))
-        (now (last .entry)) id packet padding) (now (out .entry)) at (now (out .exit)) r ⌝ }
+// Writes the line of a slot with a packet.
+fn put_real(out: &mut [u8], at: usize, id: u32, packet: Packet, padding: u32) -> usize
+    requires { ⌜ at + length (printed (Answer.Slot (Outcome.Real id packet padding))) ≤ length (now out) ⌝ }
+    ensures { λ r. ⌜ Appended (printed (Answer.Slot (Outcome.Real id packet padding)))
+        (now (out .entry)) at (now (out .exit)) r ⌝ }
 {
-    let id_end = put_number(out, at, first, id as u64);
-    let handle_end = put_number(out, id_end, second, packet.handle);
-    let length_end = put_number(out, handle_end, third, packet.length as u64);
-    put_between(out, length_end, fourth, padding, last)
+    let id_end = put_number(out, at, b"(slot (real ", id as u64);
+    let handle_end = put_number(out, id_end, b" ", packet.handle);
+    let length_end = put_number(out, handle_end, b" ", packet.length as u64);
+    put_between(out, length_end, b" ", padding, b"))\n")
 }
 
 // Writes the line of a slot.
@@ -137,18 +132,7 @@ fn put_slot(out: &mut [u8], at: usize, outcome: Outcome) -> usize
             id,
             packet,
             padding,
-        } => put_fields(
-            out,
-            at,
-            b"(slot (real ",
-            b" ",
-            b" ",
-            b" ",
-            b"))\n",
-            id,
-            packet,
-            padding,
-        ),
+        } => put_real(out, at, id, packet, padding),
         Outcome::Dummy { id } => put_between(out, at, b"(slot (dummy ", id, b"))\n"),
         Outcome::Idle { id } => put_between(out, at, b"(slot (idle ", id, b"))\n"),
         Outcome::None => put(out, at, b"(slot (none))\n"),
@@ -205,6 +189,48 @@ pub fn print_rate(out: &mut [u8], at: usize, id: u32, rate: u32) -> usize
     print_pair(out, at, b"(rate ", id, rate)
 }
 
+// Whether a byte of a template is a gap.
+fn is_gap(byte: u8) -> bool
+    ensures { λ r. ⌜ r ≡ isGap byte ⌝ }
+{
+    if byte == NUMBER {
+        return true;
+    }
+    byte == HANDLE
+}
+
+// Whether a number is to stand for a byte of a template: it is a gap, and of so many numbers not all are used.
+fn takes_number(byte: u8, used: usize, count: usize) -> bool
+    ensures { λ r. ⌜ r ≡ (isGap byte && ltb used count) ⌝ }
+{
+    if !is_gap(byte) {
+        return false;
+    }
+    used < count
+}
+
+// Writes a template with numbers in its gaps, one after the other. The lines of answers, of which there are many, are written text by
+// text instead, which is quicker.
+fn put_filled(out: &mut [u8], at: usize, template: &[u8], numbers: &[u64]) -> usize
+    requires { ⌜ at + length (filled (now template) (now numbers)) ≤ length (now out) ⌝ }
+    ensures { λ r. ⌜ Appended (filled (now (template .entry)) (now (numbers .entry))) (now (out .entry)) at (now (out .exit)) r ⌝ }
+{
+    let mut end = at;
+    let mut used = 0;
+    let mut i = 0;
+    while i < template.len() {
+        if takes_number(template[i], used, numbers.len()) {
+            end = put_large(out, end, numbers[used]);
+            used += 1;
+        } else {
+            out[end] = template[i];
+            end += 1;
+        }
+        i += 1;
+    }
+    end
+}
+
 // Writes the words of an outcome.
 fn put_outcome(out: &mut [u8], at: usize, outcome: Outcome) -> usize
     requires { ⌜ at + outcomeRoom ≤ length (now out) ⌝ }
@@ -215,18 +241,20 @@ fn put_outcome(out: &mut [u8], at: usize, outcome: Outcome) -> usize
             id,
             packet,
             padding,
-        } => put_fields(
-            out,
-            at,
-            b"Client ",
-            b" sent packet ",
-            b" of ",
-            b" bytes with ",
-            b" bytes of padding",
-            id,
-            packet,
-            padding,
-        ),
+        } => {
+            let fields = [
+                id as u64,
+                packet.handle,
+                packet.length as u64,
+                padding as u64,
+            ];
+            put_filled(
+                out,
+                at,
+                b"Client # sent packet @ of # bytes with # bytes of padding",
+                &fields,
+            )
+        }
         Outcome::Dummy { id } => put_between(out, at, b"Client ", id, b" sent a dummy packet"),
         Outcome::Idle { id } => put_between(out, at, b"Client ", id, b" had nothing to send"),
         Outcome::None => put(out, at, b"Nobody had the slot"),
@@ -249,9 +277,13 @@ fn put_drawn(out: &mut [u8], at: usize, target: u32, sum: u64) -> usize
     requires { ⌜ at + reasonRoom ≤ length (now out) ⌝ }
     ensures { λ r. ⌜ Appended (drawnText target sum) (now (out .entry)) at (now (out .exit)) r ⌝ }
 {
-    let target_end = put_number(out, at, b", drawn at target ", target as u64);
-    let sum_end = put_number(out, target_end, b" of a rate sum of ", sum);
-    put(out, sum_end, b".\n")
+    let fields = [target as u64, sum];
+    put_filled(
+        out,
+        at,
+        b", drawn at target # of a rate sum of #.\n",
+        &fields,
+    )
 }
 
 // Writes the words of a reason.

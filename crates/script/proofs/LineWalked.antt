@@ -25,10 +25,10 @@ use Rattle.tables.specs.declared.Control.{Control}
 use Rattle.tables.specs.Tables.{Tables}
 use Rattle.tables.specs.Meaning.{coreOf}
 use Rattle.tables.specs.Invariant.{Valid}
+use Rattle.tables.proofs.Promises.{coreOf-limits}
 use Rattle.reader.specs.declared.Span.{Span}
 use Rattle.reader.specs.LineSpans.{between, spanAt, LineEnd}
 use Rattle.reader.proofs.LineEnds.{span-end, span-feed, span-last}
-use Rattle.draw.specs.Samples.{drawsTold}
 use Rattle.slot.specs.declared.Ticked.{Ticked}
 use Rattle.script.specs.Shown.{PerformedCall, unreadFor, callFor}
 use Rattle.script.specs.Pieces.{ahead, coreBehind, Walked}
@@ -111,17 +111,16 @@ module _ (to : Audience) (text : List ℕ) (at : ℕ) (out : List ℕ) (written 
 
     -- a line with a form
     pub walked-form : {new : List ℕ} {more : ℕ} (call : Call) → parsed (between text at end) ≡ Form call
-        → (r : Ticked) (u : Tables) → PerformedCall call c t r u
+        → Valid c t → (r : Ticked) (u : Tables) → PerformedCall call c t r u
         → (ticked : Bool) → ticked ≡ isTick (eventOf call)
-        → LineWritten (callFor to ticked (coreOf (r .answered .control) u) (r .answered .answer) (drawsTold (r .sample))) out written
-        new more
+        → LineWritten (callFor to ticked (coreOf (r .answered .control) u) (r .answered .answer) (r .sample .sum)) out written new more
         → Further new more (r .answered .control) u
     unfolding answered
-    walked-form call held r u done ticked e p =
+    walked-form call held valid r u done ticked e p =
         let meets = done .promised .meets in
-        let draws = drawsTold (r .sample) in
+        let sum = r .sample .sum in
         closed p (Form call) held (r .answered .control) u (meets .valid)
-        (ap (λ (b : Bool). callFor to b (coreOf (r .answered .control) u) (r .answered .answer) draws) e
-        ∙ ap₂ (λ (core : Core) (a : Answer). callFor to (isTick (eventOf call)) core a draws) (meets .core) (meets .answer)
-        ∙ call-shown (coreOf c t) draws to call (done .draws))
+        (ap (λ (b : Bool). callFor to b (coreOf (r .answered .control) u) (r .answered .answer) sum) e
+        ∙ ap₂ (λ (core : Core) (a : Answer). callFor to (isTick (eventOf call)) core a sum) (meets .core) (meets .answer)
+        ∙ call-shown (coreOf c t) (coreOf-limits c t valid) call sum (done .sum) to)
         (meets .core)

@@ -6,7 +6,7 @@ use mathlib.Core.Bool.{Bool, true, cond}
 use mathlib.Core.List.{List, []}
 use Rattle.definitions.specs.declared.Answer.{Answer}
 use Rattle.definitions.specs.declared.Answer.the-variants.{Refused}
-use Rattle.definitions.specs.Sample.{Sample}
+use Rattle.definitions.specs.declared.Note.{Note}
 use Rattle.definitions.specs.State.{Core}
 use Rattle.definitions.specs.History.{drawsOf}
 use Rattle.definitions.specs.Sameness.{isTick}
@@ -17,17 +17,18 @@ use Rattle.grammar.specs.declared.Call.{Call}
 use Rattle.grammar.specs.Calls.{eventOf}
 use Rattle.grammar.specs.Sentences.{sentence}
 use Rattle.grammar.specs.Printout.{printed}
-use Rattle.draw.specs.Samples.{drawsTold}
+use Rattle.draw.specs.Samples.{sumOf}
+use Rattle.notes.specs.ReasonLeft.{reasonLeft}
 use Rattle.slot.specs.declared.Ticked.{Ticked}
 use Rattle.tables.specs.declared.Control.{Control}
 use Rattle.tables.specs.Tables.{Tables}
 use Rattle.tables.specs.Meaning.{coreOf}
 use Rattle.tables.specs.Places.{Promised}
 
--- a call was carried out as it is promised; and of a tick the sample tells what was drawn
+-- a call was carried out as it is promised; and of a tick the sample has the sum of the rates in its draw
 pub record PerformedCall (call : Call) (c : Control) (t : Tables) (r : Ticked) (u : Tables) : Type 0 where
   pub promised : Promised (eventOf call) c t (r .answered) u
-  pub draws : isTick (eventOf call) ≡ true → drawsTold (r .sample) ≡ drawsOf (coreOf c t)
+  pub sum : isTick (eventOf call) ≡ true → r .sample .sum ≡ sumOf (drawsOf (coreOf c t))
 
 -- of a line that holds no form
 abbrev pub unreadFor : Audience → ℕ → List ℕ
@@ -35,8 +36,14 @@ unreadFor Caller number = printed (Refused number)
 unreadFor Operator number = []
 unreadFor (Tenant id) number = []
 
--- of a call that gave an answer and left a core, by some draws if it is a tick
-abbrev pub callFor : Audience → Bool → Core → Answer → List Sample → List ℕ
-callFor Caller ticked core answer draws = printed answer
-callFor Operator ticked core answer draws = cond ticked (sentence (noteOf answer draws)) []
-callFor (Tenant id) ticked core answer draws = cond ticked (sentence (tenantSeen id core answer draws)) []
+-- what is told of a tick that gave an answer and left a core, by that sum; nobody tells the caller, and it would be told all
+abbrev pub noteFor : Audience → Core → Answer → ℕ → Note
+noteFor Caller core answer sum = noteOf answer (reasonLeft sum core)
+noteFor Operator core answer sum = noteOf answer (reasonLeft sum core)
+noteFor (Tenant id) core answer sum = tenantSeen id core answer (reasonLeft sum core)
+
+-- of a call that gave an answer and left a core, by a sum if it is a tick
+abbrev pub callFor : Audience → Bool → Core → Answer → ℕ → List ℕ
+callFor Caller ticked core answer sum = printed answer
+callFor Operator ticked core answer sum = cond ticked (sentence (noteFor Operator core answer sum)) []
+callFor (Tenant id) ticked core answer sum = cond ticked (sentence (noteFor (Tenant id) core answer sum)) []

@@ -2,7 +2,6 @@
 // operator, or a private tenant, only ticks print one.
 use definitions::Answer;
 use definitions::Note;
-use draw::Sample;
 use generator::Generator;
 use grammar::Audience;
 use grammar::Call;
@@ -16,15 +15,12 @@ use tables::STOCKS;
 use tables::STORE;
 use tables::TERMS;
 ghost use mathlib.Core.Path.{_≡_};
-ghost use mathlib.Core.Bool.{cond, _&&_, not};
-ghost use mathlib.Core.List.{[]};
+ghost use mathlib.Core.Bool.{_&&_, not};
 ghost use lib.Dec.{leb};
 ghost use lib.ListN.{length, take};
 ghost use Prim.Native.Nat.{_+_, _≤_, _<_};
 ghost use Rattle.definitions.specs.Sameness.{isTick};
 ghost use Rattle.grammar.specs.Calls.{eventOf};
-ghost use Rattle.grammar.specs.Sentences.{sentence};
-ghost use Rattle.draw.specs.Samples.{drawsTold};
 ghost use Rattle.printer.specs.Printed.{lineRoom, LineWritten};
 ghost use Rattle.reader.specs.LineSpans.{isEnd};
 ghost use Rattle.tables.specs.Tables.{Tables, tables};
@@ -32,7 +28,7 @@ ghost use Rattle.tables.specs.Meaning.{coreOf};
 ghost use Rattle.tables.specs.Invariant.{Valid};
 ghost use Rattle.tables.specs.Places.{Promised};
 ghost use Rattle.script.specs.UnreadLine.{unreadNumber};
-ghost use Rattle.script.specs.Shown.{PerformedCall, unreadFor, callFor};
+ghost use Rattle.script.specs.Shown.{PerformedCall, unreadFor, noteFor, callFor};
 ghost use Rattle.script.specs.Pieces.{Walked, Piece, Start};
 
 // What bytes that are no form are answered with, and a text that is too long.
@@ -163,8 +159,8 @@ pub fn perform(
         (tables (now (terms .entry)) (now (stocks .entry)) (now (handles .entry)) (now (lengths .entry)) (now (links .entry))) r
         (tables (now (terms .exit)) (now (stocks .exit)) (now (handles .exit)) (now (lengths .exit)) (now (links .exit))) ⌝ }
 {
-    let told = perform_told(control, terms, stocks, handles, lengths, links, call);
-    told.answered
+    let performed = perform_told(control, terms, stocks, handles, lengths, links, call);
+    performed.answered
 }
 
 // The number that a line without a form is answered with.
@@ -198,18 +194,20 @@ fn is_tick(call: Call) -> bool
     false
 }
 
-// Writes a note, if it is of a tick.
-fn print_tick(out: &mut [u8], at: usize, ticked: bool, note: Note) -> usize
-    ensures { λ r. ⌜ LineWritten (cond ticked (sentence note) []) (now (out .entry)) at (now (out .exit)) r ⌝ }
+// What an audience is told of a tick that gave an answer and left a control; the caller, who is given the answer, would be told what the
+// operator is. A tick leaves every client's type as it was, so the control after it tells a tenant the same as the one before, which
+// nobody has to keep meanwhile.
+fn note_for(audience: Audience, control: Control, answer: Answer, sum: u64) -> Note
+    ensures { λ r. ⌜ ((t : Tables) → r ≡ noteFor audience (coreOf control t) answer sum) ⌝ }
 {
-    if !ticked {
-        return at;
+    let reason = notes::reason(control, sum);
+    if let Audience::Tenant { id } = audience {
+        return notes::tenant(id, control, answer, reason);
     }
-    printer::print_note(out, at, note)
+    notes::operator(answer, reason)
 }
 
-// Writes what a call shows that was carried out. A tick leaves every client's type as it was, so the control after it tells a tenant the
-// same as the one before, which nobody has to keep meanwhile.
+// Writes what a call shows that was carried out.
 fn show(
     audience: Audience,
     out: &mut [u8],
@@ -217,19 +215,19 @@ fn show(
     control: Control,
     ticked: bool,
     answer: Answer,
-    sample: Sample,
+    sum: u64,
 ) -> usize
-    ensures { λ r. ⌜ ((t : Tables) → LineWritten (callFor audience ticked (coreOf control t) answer (drawsTold sample))
+    ensures { λ r. ⌜ ((t : Tables) → LineWritten (callFor audience ticked (coreOf control t) answer sum)
         (now (out .entry)) at (now (out .exit)) r) ⌝ }
 {
-    match audience {
-        Audience::Caller => printer::print(out, at, answer),
-        Audience::Operator => print_tick(out, at, ticked, notes::operator(answer, sample)),
-        Audience::Tenant { id } => {
-            let note = notes::tenant(id, control, answer, sample);
-            print_tick(out, at, ticked, note)
-        }
+    if let Audience::Caller = audience {
+        return printer::print(out, at, answer);
     }
+    if !ticked {
+        return at;
+    }
+    let note = note_for(audience, control, answer, sum);
+    printer::print_note(out, at, note)
 }
 
 // One line, for which there is room: what it holds is carried out, or it is answered and skipped.
@@ -275,12 +273,12 @@ fn line(
         };
     };
     let ticked = is_tick(call);
-    let told = perform_told(control, terms, stocks, handles, lengths, links, call);
-    let answered = told.answered;
+    let performed = perform_told(control, terms, stocks, handles, lengths, links, call);
+    let answered = performed.answered;
     let answer = answered.answer;
     let left = answered.control;
-    let sample = told.sample;
-    let more = show(audience, out, written, left, ticked, answer, sample);
+    let sample = performed.sample;
+    let more = show(audience, out, written, left, ticked, answer, sample.sum);
     Progress {
         control: left,
         next,

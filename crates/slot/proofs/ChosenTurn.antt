@@ -22,9 +22,9 @@ use Rattle.draw.specs.declared.Sample.{Sample}
 use Rattle.marks.specs.Marks.{marked, markedNumber}
 use Rattle.marks.proofs.IdSearch.{anyBelow-cong}
 use Rattle.draw.specs.Weights.{weightAt}
-use Rattle.draw.specs.Samples.{SameSample, drawsTold, Undrawn}
+use Rattle.draw.specs.Samples.{SameSample, Undrawn}
 use Rattle.draw.proofs.EqualWeights.{draw-cong}
-use Rattle.draw.proofs.Samples.{same-draws, draw-steps}
+use Rattle.draw.proofs.Samples.{drawn-stands, undrawn-stands, draw-steps}
 use Rattle.order.specs.Order.{frontOf}
 use Rattle.order.specs.Owner.{owner}
 use Rattle.order.proofs.OrderWalk.{ordered-walked}
@@ -128,7 +128,7 @@ module _ (c : Control) (t : Tables) (core : SoundCore c t) where
   drawn-chosen rule word r d weight agrees = record {
     rule = d .rule;
     id = d .id ∙ ap (λ (x : Drawn). x .id) agrees;
-    draws = same-draws (r .sample) (subst (λ (x : Drawn). SameSample (r .sample) (x .sample)) agrees (d .sample)) (draw-steps _ weight);
+    draws = drawn-stands (r .sample) (subst (λ (x : Drawn). SameSample (r .sample) (x .sample)) agrees (d .sample)) (draw-steps _ weight);
     generator = d .sample .generator ∙ ap (λ (x : Drawn). x .sample .generator) agrees;
   }
 
@@ -177,7 +177,7 @@ module _ (c : Control) (t : Tables) (core : SoundCore c t) where
             rule = rule;
             id = id ∙ ap owner e ∙ sym (order-some (core .shape .order) whole)
                 ∙ ap earliest (sym (order-owners c t (core .shape)));
-            draws = ap drawsTold none;
+            draws = undrawn-stands none;
             generator = ap (λ (x : Sample). x .generator .value) none;
           })
         where
@@ -203,4 +203,4 @@ module _ (c : Control) (t : Tables) (core : SoundCore c t) where
       unfolding turn ruleOf turnBy stateOf sideOf
       chosen-nobody any r rule id still =
           rw (sym some-contend ∙ none, sym some-private ∙ any)
-          (record { rule = rule; id = id; draws = ap drawsTold still; generator = ap (λ (x : Sample). x .generator .value) still })
+          (record { rule = rule; id = id; draws = undrawn-stands still; generator = ap (λ (x : Sample). x .generator .value) still })

@@ -18,7 +18,8 @@ use Rattle.definitions.proofs.Limits.{step-limits}
 use Rattle.definitions.proofs.Limits.Client.{BurstBy, rate-high, burst-high, Parts, limits-parts}
 use Rattle.generator.specs.declared.Generator.{Generator}
 use Rattle.draw.specs.declared.Sample.{Sample}
-use Rattle.draw.specs.Samples.{drawsTold, Undrawn}
+use Rattle.draw.specs.Samples.{StandsFor, Undrawn}
+use Rattle.draw.proofs.Samples.{undrawn-stands}
 use Rattle.marks.specs.Marks.{marked}
 use Rattle.tables.specs.declared.Control.{Control}
 use Rattle.tables.specs.declared.Answered.{Answered}
@@ -58,12 +59,12 @@ module _ (c : Control) (t : Tables) (valid : Valid c t) where
       told = ap (λ (x : Core). step x Tick) shut
 
   -- what was drawn: nothing on an unopened core, and else what the turn drew
-  pub undrawn-draws : c .opened ≡ false → {g : Generator} {r : Sample} → Undrawn g r → drawsTold r ≡ drawsOf (coreOf c t)
-  undrawn-draws e none = ap drawsTold none ∙ sym (ap drawsOf (coreOf-shut c t e))
+  pub undrawn-draws : c .opened ≡ false → {g : Generator} {r : Sample} → Undrawn g r → StandsFor r (drawsOf (coreOf c t))
+  undrawn-draws e none = rw (coreOf-shut c t e) (undrawn-stands none)
 
   pub turn-draws : c .opened ≡ true → (choice : Choice) → Chosen choice (turn (stateOf c t))
-      → drawsTold (choice .sample) ≡ drawsOf (coreOf c t)
-  turn-draws e choice chosen = chosen .draws ∙ sym (ap drawsOf (coreOf-opened c t e))
+      → StandsFor (choice .sample) (drawsOf (coreOf c t))
+  turn-draws e choice chosen = rw (coreOf-opened c t e) (chosen .draws)
 
   module _ (ready : c .opened ≡ true) where
     abbrev s : State

@@ -7,7 +7,7 @@ use Rattle.definitions.specs.Sizes.{ids}
 use Rattle.definitions.specs.Draw.{sumBelow, draw}
 use Rattle.definitions.specs.Tick.{Rule, rule1, rule2, rule3, Turn}
 use Rattle.draw.specs.Weights.{weightAt}
-use Rattle.draw.specs.Samples.{SameSample, drawsTold}
+use Rattle.draw.specs.Samples.{SameSample, StandsFor}
 use Rattle.tables.specs.declared.Control.{Control}
 use Rattle.tables.specs.Tables.{tables}
 use Rattle.tables.specs.Invariant.{SoundCore}
@@ -22,7 +22,7 @@ numberOf rule3 = 3
 pub record Chosen (r : Choice) (t : Turn) : Type 0 where
   pub rule : r .rule ≡ numberOf (t .rule)
   pub id : r .id ≡ t .id
-  pub draws : drawsTold (r .sample) ≡ t .draws
+  pub draws : StandsFor (r .sample) (t .draws)
   pub generator : r .sample .generator .value ≡ t .generator
 
 -- a choice by a draw among the marked ids

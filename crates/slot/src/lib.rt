@@ -31,7 +31,7 @@ ghost use Rattle.definitions.specs.Tick.{turn};
 ghost use Rattle.definitions.specs.History.{drawsOf};
 ghost use Rattle.marks.specs.Marks.{marked};
 ghost use Rattle.draw.specs.Weights.{weightAt};
-ghost use Rattle.draw.specs.Samples.{drawsTold};
+ghost use Rattle.draw.specs.Samples.{StandsFor};
 ghost use Rattle.order.specs.Order.{sentinel, Sound};
 ghost use Rattle.tables.specs.Tables.{tables, headAt, countAt};
 ghost use Rattle.tables.specs.Meaning.{packetAt, stateOf, coreOf};
@@ -323,8 +323,7 @@ fn refill_each(word: u64, terms: &mut [u32; TERMS])
     }
 }
 
-// What a tick gives: the answer with the control after it, and what was drawn; where nobody was, that has 0 steps, and nothing else
-// of it counts.
+// What a tick gives: the answer with the control after it, and what was drawn; where nobody was, that has 0 steps and a sum of 0.
 pub struct Ticked {
     pub answered: Answered,
     pub sample: Sample,
@@ -344,8 +343,8 @@ pub fn tick(
         (tables (now (terms .entry)) (now (stocks .entry)) (now (handles .entry)) (now (lengths .entry)) (now (links .entry)))
         (r .answered)
         (tables (now (terms .exit)) (now (stocks .exit)) (now (handles .exit)) (now (lengths .exit)) (now (links .exit))) ⌝ }
-    ensures { λ r. ⌜ drawsTold (r .sample) ≡ drawsOf (coreOf control
-        (tables (now (terms .entry)) (now (stocks .entry)) (now (handles .entry)) (now (lengths .entry)) (now (links .entry)))) ⌝ }
+    ensures { λ r. ⌜ StandsFor (r .sample) (drawsOf (coreOf control
+        (tables (now (terms .entry)) (now (stocks .entry)) (now (handles .entry)) (now (lengths .entry)) (now (links .entry))))) ⌝ }
 {
     if !control.opened {
         let answered = tables::refused(control, UNOPENED);

@@ -85,6 +85,15 @@ pub coreOf-shut : (c : Control) (t : Tables) → c .opened ≡ false → coreOf 
 unfolding coreOf
 coreOf-shut c t e = rw e
 
+-- valid tables mean a core within the limits
+pub coreOf-limits : (c : Control) (t : Tables) → Valid c t → CoreLimits (coreOf c t)
+unfolding coreOf
+coreOf-limits c t valid = go (c .opened) (λ e. valid e .limits)
+  where
+    go : (opened : Bool) → (opened ≡ true → StateLimits (stateOf c t)) → CoreLimits (cond opened (running (stateOf c t)) unopened)
+    go true known = known refl
+    go false known = tt
+
 module _ (call : Event) (k : Checking call) (c : Control) (t : Tables) (valid : Valid c t) where
   s : State
   s = stateOf c t

@@ -8,13 +8,13 @@ use mathlib.Core.List.{List, _∷_}
 use Rattle.definitions.specs.declared.Answer.{Answer}
 use Rattle.definitions.specs.declared.Note.{Note}
 use Rattle.definitions.specs.State.{Core}
-use Rattle.definitions.specs.Event.{Event, Open, Join, Change, Leave, Load, Arrive, Tick}
+use Rattle.definitions.specs.Event.{Event, Tick}
 use Rattle.definitions.specs.Core.{step}
 use Rattle.definitions.specs.History.{calls, drawsOf, Trace, scheduler, after, traceOf}
 use Rattle.definitions.specs.Sameness.{isTick, kept}
-use Rattle.definitions.specs.Notes.{operatorNote, tenantSeen, tenantNote}
+use Rattle.definitions.specs.Notes.{reasonOf, operatorNote, tenantSeen, tenantNote}
 use Rattle.definitions.specs.TenantSheet.{notesOf, TenantSheets}
-use Rattle.definitions.proofs.Laws.Tests.{true-false}
+use Rattle.definitions.proofs.ToldNotes.{tick-event}
 use Rattle.definitions.proofs.Sameness.TenantSheets.{tenant-sheets}
 use Rattle.tables.specs.declared.Control.{Control}
 use Rattle.tables.specs.declared.Answered.{Answered}
@@ -26,19 +26,14 @@ use Rattle.tables.specs.RunSheets.{Telling, sheetOf, operatorTells, RunS
 use Rattle.tables.proofs.Runs.{reached-core, place-called, run-defined}
 
 module _ (tells : Telling) (note : Core → Note)
-    (told : (core : Core) → tells core (step core Tick .answer) (drawsOf core) ≡ note core) where
+    (told : (core : Core) → tells core (step core Tick .answer) (reasonOf (drawsOf core)) ≡ note core) where
   -- what is told of a call that kept its promise, if it was a tick
   tick-told : (call : Event) (c : Control) (t u : Tables) (r : Answered) → isTick call ≡ true → Meets call c t r u
-      → tells (coreOf c t) (r .answer) (drawsOf (coreOf c t)) ≡ note (coreOf c t)
-  unfolding isTick
-  tick-told (Open threshold discipline seed) c t u r e m = true-false e refl
-  tick-told (Join id kind rate burst) c t u r e m = true-false e refl
-  tick-told (Change id kind rate burst) c t u r e m = true-false e refl
-  tick-told (Leave id) c t u r e m = true-false e refl
-  tick-told (Load id dummies) c t u r e m = true-false e refl
-  tick-told (Arrive id packet) c t u r e m = true-false e refl
-  tick-told Tick c t u r e m =
-      ap (λ (a : Answer). tells (coreOf c t) a (drawsOf (coreOf c t))) (m .answer) ∙ told (coreOf c t)
+      → tells (coreOf c t) (r .answer) (reasonOf (drawsOf (coreOf c t))) ≡ note (coreOf c t)
+  tick-told call c t u r e m =
+      let ticked : r .answer ≡ step (coreOf c t) Tick .answer =
+      m .answer ∙ ap (λ (x : Event). step (coreOf c t) x .answer) (tick-event call e) in
+      ap (λ (a : Answer). tells (coreOf c t) a (reasonOf (drawsOf (coreOf c t)))) ticked ∙ told (coreOf c t)
 
   sheet-defined : {trace : Trace} {c : Control} {t : Tables} (run : Reached trace c t) → sheetOf tells run ≡ notesOf note (callsOf trace)
   unfolding sheetOf notesOf callsOf
@@ -46,7 +41,7 @@ module _ (tells : Telling) (note : Core → Note)
   sheet-defined (called {trace} {c} {t} {u} {call} {r} run m) = go (isTick call) refl (sheet-defined run)
     where
       go : (b : Bool) → isTick call ≡ b → sheetOf tells run ≡ notesOf note (callsOf trace)
-          → cond b (tells (coreOf c t) (r .answer) (drawsOf (coreOf c t)) ∷ sheetOf tells run) (sheetOf tells run)
+          → cond b (tells (coreOf c t) (r .answer) (reasonOf (drawsOf (coreOf c t))) ∷ sheetOf tells run) (sheetOf tells run)
           ≡ cond b (note (after scheduler (callsOf trace)) ∷ notesOf note (callsOf trace)) (notesOf note (callsOf trace))
       go true e rest =
           ap₂ (λ (first : Note) (more : List Note). first ∷ more) (tick-told call c t u r e m ∙ ap note (reached-core run)) rest

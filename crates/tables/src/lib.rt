@@ -13,9 +13,8 @@ ghost use Rattle.tables.specs.Tables.{Tables};
 ghost use Rattle.tables.specs.Meaning.{kindAt};
 ghost use Rattle.tables.specs.Numbers.{refusal};
 
-// What of the core is no table, and goes by value.
+// What of the core is no table, and goes by value. With the bool last every call takes fewer instructions than with it first.
 pub struct Control {
-    pub opened: bool,
     pub threshold: u32,
     pub discipline: u32,
     pub generator: Generator,
@@ -25,6 +24,7 @@ pub struct Control {
     pub indifferent: u64,
     pub private: u64,
     pub waiting: u64,
+    pub opened: bool,
 }
 
 // What a call gives: its answer, and the control after it.

@@ -1,6 +1,7 @@
--- Within the limits a slot by rule 1 sends an indifferent packet, under either discipline, and rule 2 picks a private client.
+-- Within the limits a slot by rule 1 sends an indifferent packet, under either discipline, and rule 2 picks a private client; and the
+-- target of its draw is what the generator leaves after it.
 -- It holds since the order has a packet where one waits, and since a draw among clients that have rates draws one of them.
-use Prim.Native.Nat.{ℕ, _≤_, _<_}
+use Prim.Native.Nat.{ℕ, _%_, _≤_, _<_}
 use mathlib.Core.Path.{_≡_, refl, ap, subst, _∙_}
 use mathlib.Core.Bool.{Bool, true, false, not, _&&_, false≢true}
 use mathlib.Core.List.{List, [], _∷_}
@@ -10,7 +11,8 @@ use Rattle.definitions.specs.declared.Packet.{Packet}
 use Rattle.definitions.specs.declared.Outcome.the-variants.{Real}
 use Rattle.definitions.specs.declared.Answer.the-variants.{Slot}
 use Rattle.definitions.specs.Sizes.{ids, firstCome}
-use Rattle.definitions.specs.Draw.{draw}
+use Rattle.definitions.specs.Sample.{Sample}
+use Rattle.definitions.specs.Draw.{sumBelow, draw}
 use Rattle.definitions.specs.Client.{Kind, absent, indifferent, private, isActive, isIndifferent, isPrivate, Client}
 use Rattle.definitions.specs.Stock.{Stock, empty}
 use Rattle.definitions.specs.State.{State, earliest}
@@ -20,7 +22,8 @@ use Rattle.definitions.specs.Facts.{Rule1Sends, Rule2Private}
 use Rattle.definitions.proofs.Laws.Tests.{lt-cases, cond-both}
 use Rattle.definitions.proofs.Laws.Kinds.{private-kind}
 use Rattle.definitions.proofs.Laws.Rules.{rule-cases, turn-rule}
-use Rattle.definitions.proofs.Draw.{weighing, draw-among}
+use Rattle.definitions.proofs.Sample.{sample-sum, sample-sampled}
+use Rattle.definitions.proofs.Draw.{weighing, weighing-some, draw-among}
 use Rattle.definitions.proofs.Limits.Order.{standing-first-same}
 use Rattle.definitions.proofs.Limits.Client.{Parts, RateBy, limits-parts}
 use Rattle.definitions.proofs.Limits.Slots.{ordered-silent, ordered-high}
@@ -59,6 +62,18 @@ PickedBy rule1 s id = (id < ids) × (contends (s .clients id) (s .side .stocks i
 PickedBy rule2 s id = (id < ids) × (isPrivate (s .clients id .kind) ≡ true)
 PickedBy rule3 s id = Unit {0}
 
+-- of the draws of a turn and the generator after it: that the rates in a draw are some, and leave its target of that value
+abbrev pub Counted : List Sample → ℕ → Type 0
+Counted [] generator = Unit {0}
+Counted (d ∷ draws) generator = (0 < d .sum) × (d .target ≡ generator % d .sum)
+
+draw-counted : (generator : ℕ) (weight : ℕ → ℕ) → 0 < sumBelow ids weight
+    → let d = draw generator weight .sample in Counted (d ∷ []) (d .generator)
+unfolding draw
+draw-counted generator weight some =
+    let sum = sumBelow ids weight in
+    rw (sample-sum sum generator) (some, sample-sampled sum generator .targetIs)
+
 active-rate : (c : Client) → Parts c → isActive (c .kind) ≡ true → 1 ≤ c .rate
 active-rate c parts e = go (c .kind) e (parts .rates)
   where
@@ -75,6 +90,10 @@ private-active private e = refl
 module _ (s : State) (known : StateLimits s) where
   rated : (id : ℕ) → isActive (s .clients id .kind) ≡ true → 1 ≤ s .clients id .rate
   rated id = active-rate (s .clients id) (limits-parts (s .clients id) (known .clientLimits id))
+
+  contender-rated : (id : ℕ) → contends (s .clients id) (s .side .stocks id) ≡ true → 1 ≤ s .clients id .rate
+  contender-rated id waits =
+      rated id (ap isActive (contends-contender (s .clients id) (s .side .stocks id) waits .indifferently))
 
   -- Discipline 0: where an indifferent packet waits, the order has a first, and that one waits.
   earliest-picked : (id : ℕ) → contends (s .clients id) (s .side .stocks id) ≡ true → PickedBy rule1 s (earliest (s .side .order))
@@ -98,9 +117,8 @@ module _ (s : State) (known : StateLimits s) where
       → PickedBy rule1 s (draw (s .side .generator) (contenderRate s) .id)
   unfolding contenderRate weighing
   contender-picked id below waits =
-      let indifferently = contends-contender (s .clients id) (s .side .stocks id) waits .indifferently in
       draw-among (λ j. contends (s .clients j) (s .side .stocks j)) (λ j. s .clients j .rate) (s .side .generator) id below waits
-      (rated id (ap isActive indifferently))
+      (contender-rated id waits)
 
   -- Rule 2: a draw among all private clients.
   private-picked : (id : ℕ)
@@ -111,6 +129,29 @@ module _ (s : State) (known : StateLimits s) where
   private-picked id below secret =
       draw-among (λ j. isPrivate (s .clients j .kind)) (λ j. s .clients j .rate) (s .side .generator) id below secret
       (rated id (private-active (s .clients id .kind) secret))
+
+  -- what these draws are among weighs something
+  contender-sum : (id : ℕ) → id < ids → contends (s .clients id) (s .side .stocks id) ≡ true → 0 < sumBelow ids (contenderRate s)
+  unfolding contenderRate weighing
+  contender-sum id below waits =
+      weighing-some (λ j. contends (s .clients j) (s .side .stocks j)) (λ j. s .clients j .rate) id below waits
+      (contender-rated id waits)
+
+  private-sum : (id : ℕ) → id < ids → isPrivate (s .clients id .kind) ≡ true → 0 < sumBelow ids (privateRate (s .clients))
+  unfolding privateRate weighing
+  private-sum id below secret =
+      weighing-some (λ j. isPrivate (s .clients j .kind)) (λ j. s .clients j .rate) id below secret
+      (rated id (private-active (s .clients id .kind) secret))
+
+  pub turn-counted : Counted (turn s .draws) (turn s .generator)
+  unfolding turn turnBy firstTurn
+  turn-counted =
+      rule-cases (λ rule. Counted (turnBy rule s .draws) (turnBy rule s .generator)) s
+      (λ id below waits. cond-both (λ (t : Turn). Counted (t .draws) (t .generator)) (eqb (s .discipline) firstCome)
+      tt
+      (draw-counted (s .side .generator) (contenderRate s) (contender-sum id below waits)))
+      (λ none id below secret. draw-counted (s .side .generator) (privateRate (s .clients)) (private-sum id below secret))
+      (λ none noneSecret. tt)
 
   pub turn-picked : PickedBy (ruleOf s) s (turn s .id)
   unfolding turn turnBy firstTurn

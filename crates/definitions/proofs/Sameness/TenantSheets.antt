@@ -8,9 +8,9 @@ use lib.Dec.{eqb}
 use borrow.Author.Tests.{not-true}
 use Rattle.definitions.specs.declared.Outcome.{Outcome}
 use Rattle.definitions.specs.declared.Answer.the-variants.{Slot}
+use Rattle.definitions.specs.declared.Reason.{Reason}
 use Rattle.definitions.specs.declared.Note.{Note}
 use Rattle.definitions.specs.declared.Note.the-variants.{ToAnother}
-use Rattle.definitions.specs.Sample.{Sample}
 use Rattle.definitions.specs.Client.{isPrivate}
 use Rattle.definitions.specs.Stock.{Stock}
 use Rattle.definitions.specs.State.{State, Core, unopened, running}
@@ -19,7 +19,7 @@ use Rattle.definitions.specs.Tick.{Rule, rule1, rule2, rule3, turn, outc
 use Rattle.definitions.specs.Core.{step}
 use Rattle.definitions.specs.History.{History, start, _then_, scheduler, after, dealingAt, traceOf}
 use Rattle.definitions.specs.Sameness.{isTick, isStruck, kept}
-use Rattle.definitions.specs.Notes.{seenBy, tenantChecks, unlessRefused, tenantSeen, tenantNote}
+use Rattle.definitions.specs.Notes.{reasonOf, seenBy, tenantChecks, unlessRefused, tenantSeen, tenantNote}
 use Rattle.definitions.specs.TenantSheet.{notesOf, TenantSheets}
 use Rattle.definitions.proofs.Laws.Tests.{true-false, and-both}
 use Rattle.definitions.proofs.Laws.Kinds.{private-kind}
@@ -34,30 +34,30 @@ module _ (tenant : ℕ) where
   -- ---- one slot
 
   -- a slot of a hidden client goes to another private one, whatever it sends
-  hidden-seen : (s : State) (id : ℕ) (k : Stock) (draws : List Sample) → hidden tenant id (s .clients id) ≡ true
-      → seenBy s tenant (Slot (sent id (s .clients id) k)) draws ≡ ToAnother
+  hidden-seen : (s : State) (id : ℕ) (k : Stock) (reason : Reason) → hidden tenant id (s .clients id) ≡ true
+      → seenBy s tenant (Slot (sent id (s .clients id) k)) reason ≡ ToAnother
   unfolding seenBy hidden
-  hidden-seen s id k draws e =
+  hidden-seen s id k reason e =
       let apart = and-both (isPrivate (s .clients id .kind)) (not (eqb id tenant)) e in
       rw (sent-holder id (s .clients id) k, not-true (eqb id tenant) (apart .1), private-kind (s .clients id .kind) (apart .0))
 
-  outcome-seen : (s : State) (r : Rule) (id : ℕ) (draws : List Sample)
-      → seenBy s tenant (Slot (outcomeBy r id s)) draws ≡ seenBy s tenant (Slot (outcomeBy r id (erase tenant s))) draws
+  outcome-seen : (s : State) (r : Rule) (id : ℕ) (reason : Reason)
+      → seenBy s tenant (Slot (outcomeBy r id s)) reason ≡ seenBy s tenant (Slot (outcomeBy r id (erase tenant s))) reason
   unfolding outcomeBy erase
-  outcome-seen s r id draws = go (hidden tenant id (s .clients id)) refl r
+  outcome-seen s r id reason = go (hidden tenant id (s .clients id)) refl r
     where
       go : (b : Bool) → hidden tenant id (s .clients id) ≡ b → (r : Rule)
-          → seenBy s tenant (Slot (outcomeBy r id s)) draws ≡ seenBy s tenant (Slot (outcomeBy r id (erase tenant s))) draws
-      go false e r = ap (λ (o : Outcome). seenBy s tenant (Slot o) draws) (outcome-erased tenant s r id e)
-      go true e rule1 = hidden-seen s id _ draws e ∙ sym (hidden-seen s id _ draws e)
-      go true e rule2 = hidden-seen s id _ draws e ∙ sym (hidden-seen s id _ draws e)
+          → seenBy s tenant (Slot (outcomeBy r id s)) reason ≡ seenBy s tenant (Slot (outcomeBy r id (erase tenant s))) reason
+      go false e r = ap (λ (o : Outcome). seenBy s tenant (Slot o) reason) (outcome-erased tenant s r id e)
+      go true e rule1 = hidden-seen s id _ reason e ∙ sym (hidden-seen s id _ reason e)
+      go true e rule2 = hidden-seen s id _ reason e ∙ sym (hidden-seen s id _ reason e)
       go true e rule3 = refl
 
   slot-seen : (s : State)
-      → seenBy s tenant (onTick s .answer) (turn s .draws)
-      ≡ seenBy s tenant (onTick (erase tenant s) .answer) (turn (erase tenant s) .draws)
+      → seenBy s tenant (onTick s .answer) (reasonOf (turn s .draws))
+      ≡ seenBy s tenant (onTick (erase tenant s) .answer) (reasonOf (turn (erase tenant s) .draws))
   unfolding onTick
-  slot-seen s = rw (turn-erased tenant s) (outcome-seen s (turn s .rule) (turn s .id) (turn s .draws))
+  slot-seen s = rw (turn-erased tenant s) (outcome-seen s (turn s .rule) (turn s .id) (reasonOf (turn s .draws)))
 
   note-erased : (core : Core) → tenantNote tenant core ≡ tenantNote tenant (eraseCore tenant core)
   unfolding tenantNote tenantSeen eraseCore step

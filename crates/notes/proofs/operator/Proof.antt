@@ -4,12 +4,8 @@ use mathlib.Core.Path.{sym, ap}
 use Rattle.definitions.specs.declared.Answer.{Answer}
 use Rattle.definitions.specs.Answers.{number}
 use Rattle.definitions.specs.Notes.{noteOf}
-use Rattle.draw.specs.Samples.{drawsTold}
 use Rattle.notes.proofs.operator.Statement.{statement}
 use Rattle.notes.proofs.operator.Tie as tie
-
-reason-of-requires : tie.Need-reason-of-requires
-reason-of-requires c κs = search needs
 
 enum-told : tie.Need-enum-told
 enum-told c = search needs
@@ -22,23 +18,17 @@ enum-known-answer-2 c = search needs
 
 returns : tie.Need-returns
 unfolding noteOf number
-returns c =
-    let draws = drawsTold (c .before .before .before .args .sample) in
-    sym (ap (λ (a : Answer). noteOf a draws) (c .enum-told .given .1))
+returns c = sym (ap (λ (a : Answer). noteOf a (c .before .before .args .reason)) (c .enum-told .given .1))
 
 returns-2 : tie.Need-returns-2
 unfolding noteOf number
-returns-2 c =
-    let draws = drawsTold (c .before .before .before .before .args .sample) in
-    sym (ap (λ (a : Answer). noteOf a draws) (c .before .answer .given .1))
+returns-2 c = sym (ap (λ (a : Answer). noteOf a (c .before .before .before .args .reason)) (c .before .answer .given .1))
 
 returns-3 : tie.Need-returns-3
 unfolding noteOf
-returns-3 c =
-    let draws = drawsTold (c .before .before .before .before .args .sample) in
-    rw (c .before .before .before .reason-of .ensures) (sym (ap (λ (a : Answer). noteOf a draws) (c .before .answer2 .given .1)))
+returns-3 c = sym (ap (λ (a : Answer). noteOf a (c .before .before .before .args .reason)) (c .before .answer2 .given .1))
 
 pub operator-spec : {M : Type 1} → statement M
 operator-spec =
     tie.close
-    (tie.spec reason-of-requires enum-told enum-known-answer enum-known-answer-2 returns returns-2 returns-3)
+    (tie.spec enum-told enum-known-answer enum-known-answer-2 returns returns-2 returns-3)

@@ -7,7 +7,6 @@ use mathlib.Core.Logic.{_≢_}
 use mathlib.Core.Bool.{false}
 use Rattle.definitions.specs.Sizes.{ids}
 use Rattle.definitions.specs.Notes.{holder}
-use Rattle.draw.specs.Samples.{drawsTold}
 use Rattle.marks.specs.Marks.{marked}
 use Rattle.notes.proofs.TenantSlot.{told-refused, told-own, told-nobody, told-indifferent, told-another, told-neither}
 use Rattle.notes.proofs.tenant.Statement.{statement}
@@ -40,7 +39,7 @@ tenant-number-requires c κs = search needs
 returns : tie.Need-returns
 returns c t =
     let a = c .before .before .args in
-    told-refused (a .control) t (a .id) (a .answer) (drawsTold (a .sample)) (c .before .tenant-number .ensures t) (c .if1 .taken)
+    told-refused (a .control) t (a .id) (a .answer) (a .reason) (c .before .tenant-number .ensures t) (c .if1 .taken)
 
 operator-requires : tie.Need-operator-requires
 operator-requires c κs = search needs
@@ -53,7 +52,7 @@ returns-2 c t =
     let at = c .before in
     let a = start at .args in
     at .before .operator .ensures
-    ∙ told-own (a .control) t (a .id) (a .answer) (drawsTold (a .sample)) (passed at .before .tenant-number .ensures t)
+    ∙ told-own (a .control) t (a .id) (a .answer) (a .reason) (passed at .before .tenant-number .ensures t)
     (passed at .if1 .left)
     (sym (at .holder-of .ensures) ∙ c .if2 .taken)
 
@@ -63,7 +62,7 @@ returns-3 c t =
     let at = c .before .before in
     let a = start at .args in
     at .before .operator .ensures
-    ∙ told-nobody (a .control) t (a .id) (a .answer) (drawsTold (a .sample)) (passed at .before .tenant-number .ensures t)
+    ∙ told-nobody (a .control) t (a .id) (a .answer) (a .reason) (passed at .before .tenant-number .ensures t)
     (passed at .if1 .left) (elsewhere (c .before))
     (omega (arith, at .holder-of .ensures, c .if3 .taken))
 
@@ -74,7 +73,7 @@ returns-4 : tie.Need-returns-4
 returns-4 c t =
     let at = c .before .before .before .before in
     let a = start at .args in
-    told-indifferent (a .control) t (a .id) (a .answer) (drawsTold (a .sample)) (passed at .before .tenant-number .ensures t)
+    told-indifferent (a .control) t (a .id) (a .answer) (a .reason) (passed at .before .tenant-number .ensures t)
     (passed at .if1 .left) (elsewhere (c .before .before .before)) (below (c .before .before))
     (rw (at .holder-of .ensures) at (sym (c .before .has .ensures) ∙ c .if4 .taken))
 
@@ -85,7 +84,7 @@ returns-5 : tie.Need-returns-5
 returns-5 c t =
     let at = c .before .before .before .before .before .before in
     let a = start at .args in
-    told-another (a .control) t (a .id) (a .answer) (drawsTold (a .sample)) (passed at .before .tenant-number .ensures t)
+    told-another (a .control) t (a .id) (a .answer) (a .reason) (passed at .before .tenant-number .ensures t)
     (passed at .if1 .left) (elsewhere (c .before .before .before .before .before)) (below (c .before .before .before .before)) (unmarked (c .before .before))
     (rw (at .holder-of .ensures) at (sym (c .before .has2 .ensures) ∙ c .if5 .taken))
 
@@ -94,7 +93,7 @@ returns-6 c t =
     let at = c .before .before .before .before .before .before in
     let a = start at .args in
     at .before .operator .ensures
-    ∙ told-neither (a .control) t (a .id) (a .answer) (drawsTold (a .sample)) (passed at .before .tenant-number .ensures t)
+    ∙ told-neither (a .control) t (a .id) (a .answer) (a .reason) (passed at .before .tenant-number .ensures t)
     (passed at .if1 .left) (elsewhere (c .before .before .before .before .before)) (below (c .before .before .before .before)) (unmarked (c .before .before))
     (rw (at .holder-of .ensures) at (sym (c .before .has2 .ensures) ∙ c .if5 .left))
 

@@ -33,25 +33,25 @@ written known e narrow {at = at} a =
 enum-known-outcome : tie.Need-enum-known-outcome
 enum-known-outcome c = search needs
 
-slice-aggregate-put-fields : tie.Need-slice-aggregate-put-fields
-slice-aggregate-put-fields c = search needs
+cast-t17 : tie.Need-cast-t17
+cast-t17 c = search needs
 
-slice-aggregate-put-fields-2 : tie.Need-slice-aggregate-put-fields-2
-slice-aggregate-put-fields-2 c = search needs
+cast-t18 : tie.Need-cast-t18
+cast-t18 c = search needs
 
-slice-aggregate-put-fields-3 : tie.Need-slice-aggregate-put-fields-3
-slice-aggregate-put-fields-3 c = search needs
+cast-t19 : tie.Need-cast-t19
+cast-t19 c = search needs
 
-slice-aggregate-put-fields-4 : tie.Need-slice-aggregate-put-fields-4
-slice-aggregate-put-fields-4 c = search needs
+slice-aggregate-put-filled : tie.Need-slice-aggregate-put-filled
+slice-aggregate-put-filled c = search needs
 
-slice-aggregate-put-fields-5 : tie.Need-slice-aggregate-put-fields-5
-slice-aggregate-put-fields-5 c = search needs
+slice-aggregate-put-filled-2 : tie.Need-slice-aggregate-put-filled-2
+slice-aggregate-put-filled-2 c = search needs
 
-put-fields-requires : tie.Need-put-fields-requires
-unfolding outcomeText values filled
-put-fields-requires c κs =
-    let arm = c .before .before .before .before .before .before in
+put-filled-requires : tie.Need-put-filled-requires
+unfolding outcomeText values
+put-filled-requires c κs =
+    let arm = c .before .before .before .before in
     outcome-room (Real _ _ _) (omega (arith, arm .known-told .given)) _ (arm .before .before .before .before .pre)
 
 enum-known-outcome-2 : tie.Need-enum-known-outcome-2
@@ -97,9 +97,10 @@ same-length : tie.Need-same-length
 same-length c = search needs
 
 returns : tie.Need-returns
-unfolding shown outcomeText values filled
+unfolding shown outcomeText values
 returns c =
-    written (Real _ _ _) (c .before .before .before .before .before .before .before .before .before .before .outcome .given .1) (omega (arith, c .before .before .before .before .before .before .before .before .before .known-told .given)) (c .before .before .put-fields .ensures)
+    let arm = c .before .before .before .before .before .before .before in
+    written (Real _ _ _) (arm .before .outcome .given .1) (omega (arith, arm .known-told .given)) (c .before .before .put-filled .ensures)
 
 same-length-2 : tie.Need-same-length-2
 same-length-2 c = search needs
@@ -128,8 +129,7 @@ returns-4 c =
 pub put-outcome-spec : {M : Type 1} → statement M
 put-outcome-spec =
     tie.close
-    (tie.spec enum-known-outcome slice-aggregate-put-fields slice-aggregate-put-fields-2 slice-aggregate-put-fields-3
-    slice-aggregate-put-fields-4 slice-aggregate-put-fields-5 put-fields-requires enum-known-outcome-2 slice-aggregate-put-between
+    (tie.spec enum-known-outcome cast-t17 cast-t18 cast-t19 slice-aggregate-put-filled slice-aggregate-put-filled-2 put-filled-requires enum-known-outcome-2 slice-aggregate-put-between
     slice-aggregate-put-between-2 put-between-requires enum-known-outcome-3 slice-aggregate-put-between-3
     slice-aggregate-put-between-4 put-between-requires-2 enum-told slice-aggregate-put put-requires same-length returns
     same-length-2 returns-2 same-length-3 returns-3 same-length-4 returns-4)

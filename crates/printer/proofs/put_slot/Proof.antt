@@ -22,26 +22,10 @@ shown outcome = printed (Slot outcome)
 enum-known-outcome : tie.Need-enum-known-outcome
 enum-known-outcome c = search needs
 
-slice-aggregate-put-fields : tie.Need-slice-aggregate-put-fields
-slice-aggregate-put-fields c = search needs
-
-slice-aggregate-put-fields-2 : tie.Need-slice-aggregate-put-fields-2
-slice-aggregate-put-fields-2 c = search needs
-
-slice-aggregate-put-fields-3 : tie.Need-slice-aggregate-put-fields-3
-slice-aggregate-put-fields-3 c = search needs
-
-slice-aggregate-put-fields-4 : tie.Need-slice-aggregate-put-fields-4
-slice-aggregate-put-fields-4 c = search needs
-
-slice-aggregate-put-fields-5 : tie.Need-slice-aggregate-put-fields-5
-slice-aggregate-put-fields-5 c = search needs
-
-put-fields-requires : tie.Need-put-fields-requires
-unfolding printed values filled
-put-fields-requires c κs =
-    let arm = c .before .before .before .before .before .before in
-    slot-room (Real _ _ _) (omega (arith, arm .known-told .given)) _ (arm .before .before .before .before .pre)
+put-real-requires : tie.Need-put-real-requires
+unfolding values
+put-real-requires c κs =
+    slot-room (Real _ _ _) (omega (arith, c .before .known-told .given)) _ (c .before .before .before .before .before .pre)
 
 enum-known-outcome-2 : tie.Need-enum-known-outcome-2
 enum-known-outcome-2 c = search needs
@@ -86,9 +70,10 @@ same-length : tie.Need-same-length
 same-length c = search needs
 
 returns : tie.Need-returns
-unfolding shown printed values filled
+unfolding shown values
 returns c =
-    appended-as (ap shown (c .before .before .before .before .before .before .before .before .before .before .outcome .given .1)) (c .before .before .put-fields .ensures)
+    let arm = c .before .before .before .before in
+    appended-as (ap shown (arm .before .outcome .given .1)) (c .before .before .put-real .ensures)
 
 same-length-2 : tie.Need-same-length-2
 same-length-2 c = search needs
@@ -96,7 +81,8 @@ same-length-2 c = search needs
 returns-2 : tie.Need-returns-2
 unfolding shown printed values filled
 returns-2 c =
-    appended-as (ap shown (c .before .before .before .before .before .before .before .outcome2 .given .1)) (c .before .before .put-between .ensures)
+    let arm = c .before .before .before .before .before .before in
+    appended-as (ap shown (arm .before .outcome2 .given .1)) (c .before .before .put-between .ensures)
 
 same-length-3 : tie.Need-same-length-3
 same-length-3 c = search needs
@@ -104,7 +90,8 @@ same-length-3 c = search needs
 returns-3 : tie.Need-returns-3
 unfolding shown printed values filled
 returns-3 c =
-    appended-as (ap shown (c .before .before .before .before .before .before .before .outcome3 .given .1)) (c .before .before .put-between2 .ensures)
+    let arm = c .before .before .before .before .before .before in
+    appended-as (ap shown (arm .before .outcome3 .given .1)) (c .before .before .put-between2 .ensures)
 
 same-length-4 : tie.Need-same-length-4
 same-length-4 c = search needs
@@ -112,13 +99,13 @@ same-length-4 c = search needs
 returns-4 : tie.Need-returns-4
 unfolding shown printed values filled
 returns-4 c =
-    appended-as (ap shown (c .before .before .before .before .before .enum-told .given .1)) (c .before .before .put .ensures)
+    let arm = c .before .before .before .before .before in
+    appended-as (ap shown (arm .enum-told .given .1)) (c .before .before .put .ensures)
 
 pub put-slot-spec : {M : Type 1} → statement M
 put-slot-spec =
     tie.close
-    (tie.spec enum-known-outcome slice-aggregate-put-fields slice-aggregate-put-fields-2 slice-aggregate-put-fields-3
-    slice-aggregate-put-fields-4 slice-aggregate-put-fields-5 put-fields-requires enum-known-outcome-2 slice-aggregate-put-between
-    slice-aggregate-put-between-2 put-between-requires enum-known-outcome-3 slice-aggregate-put-between-3
-    slice-aggregate-put-between-4 put-between-requires-2 enum-told slice-aggregate-put put-requires same-length returns
-    same-length-2 returns-2 same-length-3 returns-3 same-length-4 returns-4)
+    (tie.spec enum-known-outcome put-real-requires enum-known-outcome-2 slice-aggregate-put-between slice-aggregate-put-between-2
+    put-between-requires enum-known-outcome-3 slice-aggregate-put-between-3 slice-aggregate-put-between-4 put-between-requires-2
+    enum-told slice-aggregate-put put-requires same-length returns same-length-2 returns-2 same-length-3 returns-3 same-length-4
+    returns-4)

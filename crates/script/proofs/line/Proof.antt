@@ -96,7 +96,7 @@ returns-3 c =
     let within = ends found .within in
     let more = parsed .before .before .if1 .left in
     walked-form _ _ _ _ _ _ _ (start .pre .1) (start .pre .2) _ (found .line-at .ensures) (omega (arith, within)) _
-    (sym (parsed .parse .ensures) ∙ read .read .given .1) _ _ (performed .perform-told .ensures)
+    (sym (parsed .parse .ensures) ∙ read .read .given .1) (start .pre .0) _ _ (performed .perform-told .ensures)
     _ (asked .is-tick .ensures)
     (c .before .before .show .ensures _)
 
