@@ -13,17 +13,18 @@ ghost use Rattle.tables.specs.Tables.{Tables};
 ghost use Rattle.tables.specs.Meaning.{kindAt};
 ghost use Rattle.tables.specs.Numbers.{refusal};
 
-// What of the core is no table, and goes by value. With the bool last every call takes fewer instructions than with it first.
+// What of the core is no table, and goes by value. Its fields stand by falling size, so that no padding between two of them is copied
+// along.
 pub struct Control {
-    pub threshold: u32,
-    pub discipline: u32,
-    pub generator: Generator,
-    // the rates of all active clients together
-    pub rates: u32,
     // a mark for each id that is indifferent, that is private, and that has packets waiting
     pub indifferent: u64,
     pub private: u64,
     pub waiting: u64,
+    pub generator: Generator,
+    pub threshold: u32,
+    pub discipline: u32,
+    // the rates of all active clients together
+    pub rates: u32,
     pub opened: bool,
 }
 
