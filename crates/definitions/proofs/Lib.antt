@@ -18,6 +18,8 @@ pub mod Bound
 pub mod Sameness
 pub mod ToldNotes
 pub mod Stretches
+pub mod Counts
+pub mod CountExamples
 pub mod Fairness
 -- the versions that have to break the contract
 pub mod WrongVersions

@@ -3,6 +3,8 @@ pub mod Calls
 pub mod Slot
 pub mod Kinds
 pub mod Histories
+pub mod Watched
+pub mod CountsAlike
 pub mod Theorem
 pub mod TenantSheets
 pub mod Leaks

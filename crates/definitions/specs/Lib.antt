@@ -20,7 +20,10 @@ pub mod Tick
 pub mod Core
 -- what is claimed: of all histories, of a draw, and case by case; and fair rates, with what is claimed of them
 pub mod History
+pub mod Traces
+pub mod Counts
 pub mod Sameness
+pub mod Counted
 pub mod Notes
 pub mod Limits
 pub mod Fits
@@ -38,6 +41,7 @@ pub mod Cases
 pub mod GreedyExamples
 pub mod GuaranteeExamples
 pub mod SwitchingExamples
+pub mod CountExamples
 pub mod FairExamples
 -- what is easy to get wrong
 pub mod Facts

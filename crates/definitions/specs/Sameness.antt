@@ -8,68 +8,10 @@ use mathlib.Core.List.{List, [], _∷_}
 use lib.Dec.{T, eqb}
 use Rattle.definitions.specs.Event.{Event, Open, Join, Change, Leave, Load, Arrive, Tick}
 use Rattle.definitions.specs.declared.Answer.{Answer}
-use Rattle.definitions.specs.Sizes.{indifferentKind}
-use Rattle.definitions.specs.Answers.{number, isAccepted, isDeparture}
+use Rattle.definitions.specs.Answers.{number, isDeparture}
 use Rattle.definitions.specs.History.{History, start, _then_, Place, calls, Dealing, Trace, begin, _and_, Holdings, Scheduler, after, answerAt, traceOf}
-
--- the calls that set a client or the core up: open, join, change and leave
-unfoldable pub isSetting : Event → Bool
-isSetting (Open threshold discipline seed) = true
-isSetting (Join id kind rate burst) = true
-isSetting (Change id kind rate burst) = true
-isSetting (Leave id) = true
-isSetting (Load id dummies) = false
-isSetting (Arrive id packet) = false
-isSetting Tick = false
-
-unfoldable pub isTick : Event → Bool
-isTick (Open threshold discipline seed) = false
-isTick (Join id kind rate burst) = false
-isTick (Change id kind rate burst) = false
-isTick (Leave id) = false
-isTick (Load id dummies) = false
-isTick (Arrive id packet) = false
-isTick Tick = true
-
-unfoldable pub isArrival : Event → Bool
-isArrival (Open threshold discipline seed) = false
-isArrival (Join id kind rate burst) = false
-isArrival (Change id kind rate burst) = false
-isArrival (Leave id) = false
-isArrival (Load id dummies) = false
-isArrival (Arrive id packet) = true
-isArrival Tick = false
-
--- a client's own calls: those that name it
-unfoldable pub names : ℕ → Event → Bool
-names id (Open threshold discipline seed) = false
-names id (Join other kind rate burst) = eqb other id
-names id (Change other kind rate burst) = eqb other id
-names id (Leave other) = eqb other id
-names id (Load other dummies) = eqb other id
-names id (Arrive other packet) = eqb other id
-names id Tick = false
-
--- whether an id is indifferent after an accepted call, given whether it was before
-unfoldable pub indifferentBy : ℕ → Event → Bool → Bool
-indifferentBy id (Open threshold discipline seed) was = false
-indifferentBy id (Join other kind rate burst) was = cond (eqb other id) (eqb kind indifferentKind) was
-indifferentBy id (Change other kind rate burst) was = cond (eqb other id) (eqb kind indifferentKind) was
-indifferentBy id (Leave other) was = cond (eqb other id) false was
-indifferentBy id (Load other dummies) was = was
-indifferentBy id (Arrive other packet) was = was
-indifferentBy id Tick was = was
-
--- whether an id is indifferent behind some calls, given whether it was before the first
-unfoldable pub indifferentSince : Bool → ℕ → Trace → Bool
-indifferentSince was id begin = was
-indifferentSince was id (t and d) =
-    cond (isAccepted (d .answer)) (indifferentBy id (d .event) (indifferentSince was id t)) (indifferentSince was id t)
-
--- "An id is indifferent there if, since the last accepted open before it, its last accepted join or change gave type 1
--- and no accepted leave of it came later."
-abbrev pub indifferentAt : ℕ → Trace → Bool
-indifferentAt = indifferentSince false
+use Rattle.definitions.specs.Counts.{Count, tallied, gained}
+unfoldable pub use Rattle.definitions.specs.Traces.{isSetting, isTick, isArrival, names, indifferentBy, indifferentSince, indifferentAt}
 
 -- "Struck out are the arrives and loads naming another id that is not indifferent at their place, an inactive one or one
 -- above 63 too."
@@ -131,11 +73,16 @@ pub record LooksSame (chosen : ℕ) (t : Trace) (x : Holdings) (u : Trace) (y : 
   -- the chosen client, active or not
   pub chosenDealings : SameDealings chosen chosen (λ p. true) t u
   pub chosenHoldings : SameHoldings chosen x y
+  -- "The chosen client's sheet is as private as its queue" (paper 02, S-7).
+  pub chosenCounts : (count : Count) → tallied chosen t count ≡ tallied chosen u count
   -- "Of any client but the chosen one .. only those answers, departures and drops are compared at whose place it is
   -- indifferent; what else it got or sent while private is not."
   pub indifferentAlike : (id : ℕ) → indifferentAt id t ≡ indifferentAt id u
   pub indifferentDealings : (id : ℕ) → SameDealings chosen id (indifferentAt id) t u
   pub indifferentHoldings : (id : ℕ) → T (indifferentAt id t) → SameHoldings id x y
+  -- "for a client that is indifferent, what is the same is what each count has gained after the join or change that made it so, what
+  -- that change itself emptied left out" (paper 02, S-7); wherever it is not, both have gained nothing
+  pub indifferentGains : (id : ℕ) (count : Count) → gained id t count ≡ gained id u count
 
 module _ (S : Scheduler) where
   -- Any chosen client, any two histories whose kept calls "agree in order and arguments", and any place of either at which

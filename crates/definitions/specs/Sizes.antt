@@ -53,3 +53,7 @@ firstCome = 0
 
 unfoldable pub weightedDraw : ℕ
 weightedDraw = 1
+
+-- "counts run to 64 bits and then begin again at zero" (paper 02, S-7): there are so many values of a count
+unfoldable pub countSpan : ℕ
+countSpan = 18446744073709551616

@@ -81,3 +81,21 @@ pub enum Note {
     ToIndifferent,
     ToAnother,
 }
+
+// A client's counts since its join, in the order in which billing names them. Each wraps at 64 bits.
+pub struct CountSheet {
+    pub accepted: u64,
+    pub sent: u64,
+    // refused with 14, for want of a place, and with 15, for want of a token
+    pub full: u64,
+    pub drained: u64,
+    // by a change of type
+    pub emptied: u64,
+    pub dummies: u64,
+}
+
+// What billing gets for an id: its counts, or the number of the first check that failed.
+pub enum Sheet {
+    Counts { counts: CountSheet },
+    Unavailable { number: u32 },
+}

@@ -17,6 +17,8 @@ use Rattle.definitions.specs.Sameness.{isSetting, isTick, isArrival, nam
 use Rattle.definitions.proofs.Laws.Tests.{T-true, true-false, and-both, eqb-same}
 use Rattle.definitions.proofs.Sameness.Erase.{hidden}
 use Rattle.definitions.proofs.Sameness.Kinds.{trace, holdsIndifferent, indifferent-held}
+use Rattle.definitions.proofs.Sameness.Watched.{Watched, watched-apart}
+use Rattle.definitions.proofs.Sameness.CountsAlike.{tally-same, gained-same}
 use Rattle.definitions.proofs.Sameness.Histories.{AlikeAt, alike-indifferent, alike-answer, alike-pick, alike-draws, alike-departure, alike-departed, alike-client, alike-stock, hidden-not, alike-through, Logged, log-same}
 
 -- ---- places
@@ -85,30 +87,19 @@ module _ (chosen : ℕ) where
     not-tick-named (Arrive j p) e = refl
     not-tick-named Tick e = sym e
 
-    -- the chosen client, or one that is indifferent there
-    abbrev Watched : History → Type 0
-    Watched h = not (eqb id chosen) && not (indifferentAt id (trace h)) ≡ false
-
-    other : (h : History) (j : ℕ) → Watched h → not (eqb j chosen) && not (indifferentAt j (trace h)) ≡ true → eqb j id ≡ false
-    other h j w e = go (eqb j id) refl
-      where
-        go : (b : Bool) → eqb j id ≡ b → b ≡ false
-        go true q = true-false (rw (eqb-true j id q) at e) w
-        go false q = refl
-
     -- a struck-out call does not name it
-    struck-names : (h : History) (c : Event) → Watched h → isStruck chosen (trace h) c ≡ true → names id c ≡ false
+    struck-names : (h : History) (c : Event) → Watched chosen id h → isStruck chosen (trace h) c ≡ true → names id c ≡ false
     unfolding isStruck names
     struck-names h (Open t d v) w e = refl
     struck-names h (Join j k r b) w e = true-false e refl
     struck-names h (Change j k r b) w e = true-false e refl
     struck-names h (Leave j) w e = true-false e refl
-    struck-names h (Load j n) w e = other h j w e
-    struck-names h (Arrive j p) w e = other h j w e
+    struck-names h (Load j n) w e = watched-apart chosen id h j w e
+    struck-names h (Arrive j p) w e = watched-apart chosen id h j w e
     struck-names h Tick w e = refl
 
     module _ (when : Trace → Bool) (steady : (h k : History) → AlikeAt chosen h k → when (trace h) ≡ when (trace k))
-        (watched : (h : History) → when (trace h) ≡ true → Watched h) where
+        (watched : (h : History) → when (trace h) ≡ true → Watched chosen id h) where
       -- a struck-out call is not logged where it would have to name the client
       not-named : (h : History) (c : Event) (more : Bool) → isStruck chosen (trace h) c ≡ true
           → when (trace h) && (names id c && more) ≡ false
@@ -193,7 +184,7 @@ module _ (chosen : ℕ) where
         drops = log-same chosen (λ p d. when p && drop id d) (λ d. d .answer) drops-logged h k e;
       }
 
-    holdings-same : (h k : History) → AlikeAt chosen h k → Watched h
+    holdings-same : (h k : History) → AlikeAt chosen h k → Watched chosen id h
         → SameHoldings id (holdingsOf (after scheduler h)) (holdingsOf (after scheduler k))
     unfolding holdsIndifferent holdingsOf
     holdings-same h k a w = record {
@@ -250,19 +241,21 @@ module _ (chosen : ℕ) where
     draws = log-same chosen (λ p d. isTick (d .event)) (λ d. d .draws) draws-logged h k e;
     chosenDealings = dealings-same chosen (λ p. true) (λ p q a. refl) (λ p w. own p) h k e;
     chosenHoldings = holdings-same chosen h k alike (own h);
+    chosenCounts = λ count. ap (λ tally. tally count) (tally-same chosen h k e);
     indifferentAlike = alike-indifferent chosen alike;
     indifferentDealings = λ id.
         dealings-same id (indifferentAt id) (λ p q a. alike-indifferent chosen a id) (indifferently id) h k e;
     indifferentHoldings = λ id w. holdings-same id h k alike (indifferently id h (T-true w));
+    indifferentGains = λ id count. ap (λ tally. tally count) (gained-same chosen id h k e);
   }
     where
       alike : AlikeAt chosen h k
       alike = alike-through chosen h k e
 
-      own : (p : History) → Watched chosen p
+      own : (p : History) → Watched chosen chosen p
       own p = rw (eqb-same chosen)
 
-      indifferently : (id : ℕ) (p : History) → indifferentAt id (trace p) ≡ true → Watched id p
+      indifferently : (id : ℕ) (p : History) → indifferentAt id (trace p) ≡ true → Watched chosen id p
       indifferently id p w = rw w (and-false (not (eqb id chosen)))
 
 pub sameness : Sameness scheduler

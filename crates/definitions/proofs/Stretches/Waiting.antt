@@ -96,13 +96,13 @@ module _ (s : State) (id : ℕ) where
       cond-both (λ (side : Side). length (side .stocks id .queue) ≡ length (s .side .stocks id .queue))
       (sameKind (s .clients other .kind) (kindOf kind)) refl (other-waits other bare e)
 
-  load-waits : (other dummies : ℕ)
+  pub load-waits : (other dummies : ℕ)
       → length (put (s .side .stocks) other (loaded (s .side .stocks other) dummies) id .queue)
       ≡ length (s .side .stocks id .queue)
   unfolding loaded
   load-waits other dummies = put-keeps (s .side .stocks) other _ (λ k. length (k .queue)) refl id
 
-  arrive-waits : (other : ℕ) (p : Packet)
+  pub arrive-waits : (other : ℕ) (p : Packet)
       → length (put (s .side .stocks) other (queued (s .side .stocks other) p) id .queue)
       ≡ oneIf (eqb other id) (length (s .side .stocks id .queue))
   unfolding queued

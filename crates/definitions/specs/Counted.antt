@@ -1,0 +1,74 @@
+-- What is claimed of the count sheets (paper 02, S-7), of every history. That they are "as private as its queue" is part of demand 3
+-- (specs/Sameness: `chosenCounts`, `indifferentGains`).
+use Prim.Native.Nat.{ℕ, _+_, _<_}
+use mathlib.Core.Path.{_≡_}
+use mathlib.Core.Logic.{_≢_}
+use mathlib.Core.Bool.{cond, _&&_}
+use lib.Dec.{T}
+use lib.ListN.{length}
+use Rattle.definitions.specs.declared.Packet.{Packet}
+use Rattle.definitions.specs.declared.Answer.the-variants.{Refused}
+use Rattle.definitions.specs.Event.{Event, Arrive}
+use Rattle.definitions.specs.Sizes.{countSpan}
+use Rattle.definitions.specs.State.{Core}
+use Rattle.definitions.specs.Core.{step}
+use Rattle.definitions.specs.History.{History, start, _then_, Trace, scheduler, after, answerAt, traceOf, stockOf}
+use Rattle.definitions.specs.Traces.{indifferentAt}
+use Rattle.definitions.specs.Counts.{Count, countAccepted, countSent, count14, count15, countEmptied, Tally, zeros, tallied, gained, wrapped, wrappedPlus, countsAfter}
+
+-- the counts that are kept behind a history
+unfoldable pub countsBehind : History → ℕ → Tally
+countsBehind start = λ id. zeros
+countsBehind (h then c) = countsAfter (after scheduler h) c (answerAt scheduler h c) (countsBehind h)
+
+-- how many packets of an id wait in a core
+unfoldable pub waitingIn : Core → ℕ → ℕ
+waitingIn core id = length (stockOf core id .queue)
+
+-- "Accepted equals sent plus emptied plus waiting, modulo 2 to the power 64."
+unfoldable pub Settles : Tally → Core → ℕ → Type 0
+Settles tally core id = tally countAccepted ≡ wrapped (tally countSent + tally countEmptied + waitingIn core id)
+
+-- of an id that is indifferent at the end: the history up to "the join or change that made it so", which is its last call
+unfoldable pub madeSo : ℕ → History → History
+madeSo id start = start
+madeSo id (h then c) =
+    cond (indifferentAt id (traceOf scheduler h) && indifferentAt id (traceOf scheduler (h then c))) (madeSo id h) (h then c)
+
+-- what a refused call leaves of the counts
+pub record DropsCounted : Type 0 where
+  -- "A refusal 14 or 15 now changes its own count and nothing else": the core is as it was, and so is every other count.
+  pub full : (core : Core) (id : ℕ) (p : Packet) (counts : ℕ → Tally) → step core (Arrive id p) .answer ≡ Refused 14
+      → (step core (Arrive id p) .core ≡ core)
+      × (countsAfter core (Arrive id p) (Refused 14) counts id count14 ≡ wrappedPlus (counts id count14) 1)
+      × ((count : Count) → count ≢ count14 → countsAfter core (Arrive id p) (Refused 14) counts id count ≡ counts id count)
+      × ((other : ℕ) (count : Count) → other ≢ id
+      → countsAfter core (Arrive id p) (Refused 14) counts other count ≡ counts other count)
+  pub drained : (core : Core) (id : ℕ) (p : Packet) (counts : ℕ → Tally) → step core (Arrive id p) .answer ≡ Refused 15
+      → (step core (Arrive id p) .core ≡ core)
+      × (countsAfter core (Arrive id p) (Refused 15) counts id count15 ≡ wrappedPlus (counts id count15) 1)
+      × ((count : Count) → count ≢ count15 → countsAfter core (Arrive id p) (Refused 15) counts id count ≡ counts id count)
+      × ((other : ℕ) (count : Count) → other ≢ id
+      → countsAfter core (Arrive id p) (Refused 15) counts other count ≡ counts other count)
+  -- every other refusal changes nothing, as before
+  pub others : (core : Core) (c : Event) (n : ℕ) (counts : ℕ → Tally) → step core c .answer ≡ Refused n → n ≢ 14 → n ≢ 15
+      → (step core c .core ≡ core) × (countsAfter core c (Refused n) counts ≡ counts)
+
+pub record Counted : Type 0 where
+  -- the counts that are kept are those of the calls since the join, modulo 2 to the power 64
+  pub keeps : (h : History) (id : ℕ) (count : Count) → countsBehind h id count ≡ wrapped (tallied id (traceOf scheduler h) count)
+  -- "Accepted equals sent plus emptied plus waiting": of the calls, to the packet
+  pub settles : (h : History) (id : ℕ)
+      → tallied id (traceOf scheduler h) countAccepted
+      ≡ tallied id (traceOf scheduler h) countSent + tallied id (traceOf scheduler h) countEmptied
+      + waitingIn (after scheduler h) id
+  -- and of the counts that are kept "modulo 2 to the power 64"
+  pub settlesKept : (h : History) (id : ℕ) → Settles (countsBehind h id) (after scheduler h) id
+  -- and so from any core and counts of 64 bits on that keep to it, whether calls led there or not
+  pub settlesOn : (core : Core) (c : Event) (counts : ℕ → Tally) (id : ℕ)
+      → ((count : Count) → counts id count < countSpan)
+      → Settles (counts id) core id
+      → Settles (countsAfter core c (step core c .answer) counts id) (step core c .core) id
+  -- "what each count has gained after the join or change that made it so": the sheet is what stood there then, and that
+  pub gains : (h : History) (id : ℕ) → T (indifferentAt id (traceOf scheduler h)) → (count : Count)
+      → countsBehind h id count ≡ wrapped (countsBehind (madeSo id h) id count + gained id (traceOf scheduler h) count)
