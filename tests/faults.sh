@@ -1,7 +1,7 @@
 #!/bin/sh
 # Shows that the tests can fail: builds the second program with each fault of paper 01's list, with the plain remainder that S-1 of
 # paper 02 does away with, with the full buckets that its S-4 does away with, with two wrong figures for S-14, with three faults against
-# S-8, with three against S-6 and with two against S-5, and runs the tests on it.
+# S-8, with three against S-6, with two against S-5 and with three against S-7, and runs the tests on it.
 #   tests/faults.sh BUILD CASES HANDLES    in the root of the repository, after the build of tests/run; needs target/bin/fair for the cases.
 #                                          CASES and HANDLES are the folders of the edition's cases
 # `compare`, the cases and the long run must catch 1 to 6, 9 and 9b, `pairs` the first four (the others cannot be seen by pairs, see
@@ -22,6 +22,11 @@
 # it reads the lines back, 11 in the operator's sheet and 11b in a tenant's, and so do the cases. No printout, no figure and no long run has them. Nor
 # do the sheets of a pair: what is left out of both, or stands in both, is the same. A leak shows there, in what a tenant is told of its own slots
 # and of others': of 1 to 9b the sheets of pairs see the first four, as `pairs` does.
+# 12 to 12c are of the count sheets: what a change of type empties counted as sent, a 14 counted as a 15, and counts kept over a leave. `counts` sees
+# them beside the second program's lines, and beside those that are counted anew from the faulty program's own printout, and so do the cases. No answer
+# and no slot is another, and under 12 and 12c accepted is still sent plus emptied plus waiting, as it has to be; 12b is of counts that this sum leaves
+# out. A leak shows in the count sheets too: of 1 to 9b those of pairs see the first four, in the chosen client's line or in what an indifferent client
+# has gained.
 # Prints a line for each; the printouts stay in BUILD/fault-N.
 build=$1 edition=$2 handles=$3 long=yes passed=0 failed=0 millions=10 # of calls, of which the sixth shows 5b
 
@@ -106,6 +111,7 @@ for fault in 1 2 3 4 5 5b 6 7 7b 9 9b; do
     try $fault sure "$in_figures" 1 300
     try_words $fault sure "the picks alone" "$in_picks" fewer 1 100 alone
     try_words $fault sheets "the sheets of pairs" "$in_pairs" differ 1 100 alone
+    try_words $fault counts "the count sheets of pairs" "$in_pairs" differ 1 100 alone
     case $fault in 7*) continue ;; esac # no long run asks for a figure
     rustc -O --edition 2021 "$folder/src/greedy.rs" -o "$folder/greedy" || exit 2
     try_long $fault caught
@@ -146,6 +152,15 @@ for fault in 11 11b; do
     try $fault compare "not seen" 1 100
     try $fault pairs "not seen" 1 100
     try $fault sure "not seen" 1 100
+done
+for fault in 12 12b 12c; do
+    plant $fault main slots
+    try_cases $fault
+    try_words $fault counts "the count sheets" caught "not as in the second program" 1 100
+    try_words $fault counts "the recount alone" caught "not as recounted" 1 100 alone
+    try $fault compare "not seen" 1 100
+    try $fault pairs "not seen" 1 100
+    try $fault sheets "not seen" 1 100
 done
 echo "$passed passed, $failed failed"
 [ "$failed" = 0 ]

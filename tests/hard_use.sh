@@ -1,7 +1,7 @@
 #!/bin/bash
-# `slots`, with `--sure N`, `--operator` and `--tenant I` and without, and `fair`, where their surroundings fail: the program ends, and says on
-# standard error what went wrong, unless the system ends it by a signal. What it printed is a beginning of the printout, or nothing; where the
-# output takes a part of it and then no more, the last answer may be cut. Of any other arguments it says so, and reads and prints nothing.
+# `slots`, with `--sure N`, `--operator`, `--tenant I` and `--counts` and without, and `fair`, where their surroundings fail: the program ends, and
+# says on standard error what went wrong, unless the system ends it by a signal. What it printed is a beginning of the printout, or nothing; where
+# the output takes a part of it and then no more, the last answer may be cut. Of any other arguments it says so, and reads and prints nothing.
 #   tests/hard_use.sh SLOTS FAIR    in the root of the repository; needs rustc
 slots=$1 fair=$2 passed=0 failed=0
 folder=$(mktemp -d)
@@ -18,7 +18,7 @@ check() {
 # of AS WORD PROGRAM INPUT OUTPUT LINE: what the checks from here on are of. Their names begin with AS, the program's messages with WORD; the
 # program, with its arguments, prints what OUTPUT holds for what INPUT holds, and LINE is a line of such an input.
 of() { as=$1 word=$2 program=$3 input=$4 output=$5 line=$6; }
-slots_usage="usage: slots [--sure N | --operator | --tenant I | --help]" fair_usage="usage: fair"
+slots_usage="usage: slots [--sure N | --operator | --tenant I | --counts | --help]" fair_usage="usage: fair"
 export slots fair folder word program input output line slots_usage fair_usage
 # shim: the program with the reads that READS says (tests/src/reads.rs)
 shim() { READS=$READS LD_PRELOAD=$folder/reads.so $program; }
@@ -39,7 +39,7 @@ bad_numbers() {
 }
 # any_argument: the same for one argument and for two, whatever they are
 any_argument() {
-    for argument in "" " " 1 512 - -- -h --help --version --sure --operator --tenant --fair fair "$input" "(threshold 5)" $'\n' $'\xff'; do
+    for argument in "" " " 1 512 - -- -h --help --version --sure --operator --tenant --counts --fair fair "$input" "(threshold 5)" $'\n' $'\xff'; do
         usage "$argument" && usage "$argument" 1 && usage 1 "$argument" || return 1
     done
 }
@@ -99,31 +99,35 @@ check "an N or I that is no number of a script gets the line of usage, and nothi
 check "a missing N or I gets the line of usage, and nothing is read or printed" 'usage --sure && usage --tenant'
 check "an argument behind N or I gets the line of usage, and nothing is read or printed" \
     'for option in --sure --tenant; do
-        usage $option 1 2 && usage $option 1 "" && usage $option 1 $option 1 && usage $option 1 --operator && usage $option 1 $input || exit 1
+        for argument in 2 "" $option --operator --counts $input; do usage $option 1 "$argument" && usage $option 1 "$argument" 1 || exit 1; done
     done'
 check "an argument behind an option that has none gets the line of usage, and nothing is read or printed" \
-    'for option in --operator --help; do
-        for argument in 1 x "" --operator --help --sure --tenant $input; do usage $option "$argument" && usage $option "$argument" 1 || exit 1; done
+    'for option in --operator --counts --help; do
+        for argument in 1 x "" --operator --counts --help --sure --tenant $input; do
+            usage $option "$argument" && usage $option "$argument" 1 || exit 1
+        done
     done'
 check "another option gets the line of usage, and nothing is read or printed" \
     'for option in -h -help --Help --helps --hel --version -s -sure --Sure --sur --sures --sure= --sure=1 "--sure 1" " --sure" \
         -o -operator --Operator --operato --operators --operator= --operator=1 "--operator " " --operator" \
-        -t -tenant --Tenant --tenan --tenants --tenant= --tenant=1 "--tenant 1" " --tenant" -- -; do
+        -t -tenant --Tenant --tenan --tenants --tenant= --tenant=1 "--tenant 1" " --tenant" \
+        -c -counts --Counts --COUNTS --count --countss --counts= --counts=1 "--counts 1" "--counts " " --counts" -- -; do
         usage "$option" && usage "$option" 1 || exit 1
     done
-    for option in --sure --operator --tenant --help; do
+    for option in --sure --operator --tenant --counts --help; do
         for more in x "$(yes x | head -n 5000 | tr -d "\n")"; do usage "$option$more" && usage "$option$more" 1 || exit 1; done
     done'
 check "an argument without dashes gets the line of usage, and nothing is read or printed" \
-    'for argument in 1 sure operator tenant help $input ""; do
-        usage "$argument" && usage "$argument" 1 && usage "$argument" --sure && usage "$argument" --operator && usage "$argument" --help || exit 1
+    'for argument in 1 sure operator tenant counts help $input ""; do
+        usage "$argument" && usage "$argument" 1 || exit 1
+        for option in --sure --operator --counts --help; do usage "$argument" $option || exit 1; done
     done'
 check "--help prints the line of usage, nothing is read, and nothing is written to standard error" \
     '[ "$({ $slots --help 2>$folder/err >$folder/out; wc -c; } <$input)" = "$(wc -c <$input)" ] && [ ! -s $folder/err ] &&
     echo "$slots_usage" | cmp - $folder/out'
 check "for --help, and for arguments that get the line of usage, no input is waited for, and none is needed" \
     'mkfifo $folder/silent && exec 3<>$folder/silent || exit 1
-    for arguments in --help --operators --tenant "--tenant x" "--operator 1" --sure; do
+    for arguments in --help --operators --tenant "--tenant x" "--operator 1" --count "--counts 1" --sure; do
         [ "$($slots $arguments 2>&1 <&3)" = "$slots_usage" ] && [ "$($slots $arguments 2>&1 <&-)" = "$slots_usage" ] || exit 1
     done'
 # S-14 of paper 02, behind the script with a core at its end that has one private client: of n ticks n are sure.
@@ -155,6 +159,23 @@ check "a reader that closes early does no harm" \
 check "the first id and the last number are asked for as any other, and nothing is written to standard error" \
     '[ "$($slots --tenant 0 <$folder/ticks 2>&1 | sort -u)" = "Client 0 had nothing to send, drawn at target 0 of a rate sum of 1." ] &&
     for id in 64 4294967295; do [ "$($slots --tenant $id <$folder/ticks 2>&1 | sort | uniq -c)" = "   8000 (refused 4)" ] || exit 1; done'
+# S-7 of paper 02: the count sheets of examples/month, and of 64 clients, which are more than 1,024 bytes. Stray lines, and a leave without its line
+# feed, are in no count.
+{ echo "(open 1024 0 1)"; for id in {0..63}; do echo "(join $id (private 16))"; done; } >$folder/crowd
+while IFS= read -r row; do printf '%s\n\n(tick) \n\377(tick)\n(arrive 7 (packet 1 64\n))\n(leave 7)\0\n' "$row"; done \
+    <examples/month.script >$folder/among
+printf '(leave 7)' >>$folder/among
+of "with --counts, " slots "$slots --counts" examples/month.script examples/month.counts "(tick)"
+surroundings
+check "an output that fills up on the way has a beginning of the lines, and standard error says why" \
+    'trap "" XFSZ; (ulimit -f 1; $program <$folder/crowd 2>$folder/err >$folder/out)
+    $program <$folder/crowd | head -c 1024 | cmp - $folder/out && grep -q "^slots: standard output: File too large" $folder/err'
+check "a reader that closes early does no harm" '[ "$($program <$folder/crowd | head -n 1)" = "(counts 0 0 0 0 0 0 0)" ]'
+check "stray bytes print nothing, however many, and nothing is written to standard error" \
+    'for text in /dev/null $folder/feeds $folder/zeros $folder/stray; do [ "$($program <$text 2>&1 | wc -c)" = 0 ] || exit 1; done'
+check "stray lines among those of a script count nothing" '$program <$folder/among 2>&1 | cmp - $output'
+check "60,001 stray bytes are refused with 18" \
+    'for text in $folder/feeds $folder/zeros $folder/stray; do [ "$({ cat $text; echo; } | $program)" = "(refused 18)" ] || exit 1; done'
 # S-8 of paper 02. It prints less than a thousand bytes, in one write: an output that fills up on the way, or closes early, is not tried.
 of "fair: " fair "$fair" examples/floor.demands examples/floor.rates "(demand 1 1)"
 surroundings

@@ -5,8 +5,8 @@
 //! waits for them first. "Every id now has 128 places" (S-9): the checks hold for whatever number
 //! the edition has, from 3 to 128, and what was reckoned for one of them says so.
 
-use crate::core::{even_draw, xorshift32, Answer, Call, Core, Draw, Opened, Outcome, INDIFFERENT,
-                  PLACES, PRIVATE};
+use crate::core::{even_draw, xorshift32, Answer, Call, Core, Counts, Draw, Opened, Outcome,
+                  INDIFFERENT, PLACES, PRIVATE};
 use crate::maker::{arrival, call, Maker, Time};
 use crate::script::{number, parse, run, sure, Line};
 
@@ -51,8 +51,13 @@ pub fn level(core: &Core, id: usize) -> u32 {
     opened(core).clients[id].as_ref().unwrap().level
 }
 
+/// A client's counts (S-7), to be set: the checks' own way, which no call has.
+pub fn counts_mut(core: &mut Core, id: usize) -> &mut Counts {
+    &mut core.opened.as_mut().unwrap().clients[id].as_mut().unwrap().counts
+}
+
 /// The number of a client's packets that wait.
-fn waiting(core: &Core, id: usize) -> u32 {
+pub fn waiting(core: &Core, id: usize) -> u32 {
     opened(core).clients[id].as_ref().unwrap().queue.len() as u32
 }
 

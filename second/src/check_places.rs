@@ -6,7 +6,7 @@
 
 use std::collections::VecDeque;
 
-use crate::check::{arrive, core_of, core_with_waiting, level, opened, FULL};
+use crate::check::{arrive, core_of, core_with_waiting, counts_mut, level, opened, FULL};
 use crate::core::{Answer, Call, Client, Core, Opened, Outcome, Packet, INDIFFERENT, PLACES,
                   PRIVATE};
 use crate::maker::Maker;
@@ -423,7 +423,8 @@ fn s9_kept() {
 }
 
 /// "Checks run down the table": of a full queue 13 comes before 14, and 14 before 15, whether a
-/// token is there or not. "and nothing changes": not a token, not a place, nothing of the core.
+/// token is there or not. "and nothing changes": not a token, not a place, nothing of the core but,
+/// by S-7, the count of a 14.
 #[test]
 fn s9_order_of_numbers() {
     let mut private = Watch::on(core_of(&[(9, PRIVATE, 1024, 0)]));
@@ -432,10 +433,11 @@ fn s9_order_of_numbers() {
     with_token.tick(); // sends the last of the others
     assert!(level(&with_token.core, 9) >= 1024);
     for mut core in [private.core, full_9().core, with_token.core] {
-        let before = core.clone();
+        let mut wanted = core.clone();
         for (length, number) in [(63, 13), (1519, 13), (0, 13), (64, 14), (1000, 14), (1518, 14)] {
             assert_eq!(arrive(&mut core, 9, 4294967295, length), Answer::Refused(number));
-            assert_eq!(core, before);
+            counts_mut(&mut wanted, 9).refused_14 += u64::from(number == 14);
+            assert_eq!(core, wanted);
         }
     }
 }

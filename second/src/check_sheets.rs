@@ -253,7 +253,7 @@ fn s5_size() {
 }
 
 /// Lines that yield no form: 16 or 17 in a printout, and nothing on a sheet.
-const BAD: [&str; 14] = [
+pub const BAD: [&str; 14] = [
     "", "(tick", "(tick) ", " (tick)", "(tick)\r", "(tick 1)", "(Tick)", "tick", "((tick))",
     "(tick)(tick)", "(slot (none))", "(leave 4294967296)", "(open 1024 0 4294967296)",
     "(arrive 2 (packet 18446744073709551616 64))",
@@ -360,11 +360,11 @@ fn s5_different_sentences() {
 }
 
 /// The ids of the scripts of chance, and those above 63.
-const IDS: [u32; 6] = [0, 1, 2, 3, 40, 63];
+pub const IDS: [u32; 6] = [0, 1, 2, 3, 40, 63];
 const ABOVE: [u32; 2] = [64, 4294967295];
 
 /// One of the ids; now and then one that never joins, or one above 63.
-fn chance_id(chance: &mut Chance) -> u32 {
+pub fn chance_id(chance: &mut Chance) -> u32 {
     match chance.below(20) {
         0 => ABOVE[chance.below(2) as usize],
         1 => 50,
@@ -372,12 +372,12 @@ fn chance_id(chance: &mut Chance) -> u32 {
     }
 }
 
-fn chance_open(chance: &mut Chance) -> Call {
+pub fn chance_open(chance: &mut Chance) -> Call {
     Call::Open { threshold: 1024, discipline: chance.below(2), seed: chance.below(1000) }
 }
 
 /// A type with its burst.
-fn chance_kind(chance: &mut Chance) -> (u32, u32) {
+pub fn chance_kind(chance: &mut Chance) -> (u32, u32) {
     match chance.below(2) {
         0 => (PRIVATE, 0),
         _ => (INDIFFERENT, 1 + chance.below(4)),
@@ -449,7 +449,7 @@ fn form(call: &Call) -> String {
 }
 
 /// The calls as a script, with bad lines among them, and sometimes bytes behind the last line feed.
-fn script(calls: &[Call], chance: &mut Chance) -> String {
+pub fn script(calls: &[Call], chance: &mut Chance) -> String {
     let mut text = String::new();
     for call in calls {
         if chance.below(20) == 0 {
@@ -610,7 +610,7 @@ fn s5_tenants_scripts() {
 
 /// Paper 01, "Two histories": "Struck out are the arrives and loads naming another id that is not
 /// indifferent at their place, an inactive one or one above 63 too."
-fn is_struck_out(core: &Core, call: &Call, chosen: u32) -> bool {
+pub fn is_struck_out(core: &Core, call: &Call, chosen: u32) -> bool {
     let (Call::Arrive { id, .. } | Call::Load { id, .. }) = *call else {
         return false;
     };

@@ -1,7 +1,8 @@
 //! The slot core of paper 01: clients, queues, pools, buckets and the seven calls, with the draw
-//! of paper 02, S-1, the buckets of S-4, which begin empty, the handles of S-6 and the places of
-//! S-9. Sentences quoted without a paper's number are paper 01's.
-//! Checking and doing are kept apart: `refusal` only looks, so "nothing changes".
+//! of paper 02, S-1, the buckets of S-4, which begin empty, the handles of S-6, the counts of S-7
+//! and the places of S-9. Sentences quoted without a paper's number are paper 01's.
+//! Checking and doing are kept apart: `refusal` only looks, so "nothing changes" but, by S-7, the
+//! count of a 14 or 15.
 
 use std::collections::VecDeque;
 
@@ -58,7 +59,25 @@ pub struct Packet {
     pub number: u64,
 }
 
+/// Paper 02, S-7: "Billing wants, since the join: accepted, sent, refused 14, refused 15, emptied
+/// out, dummies sent." All are 0 at first; no call and no answer depends on them.
+#[derive(Debug, Clone, PartialEq, Eq, Default)]
+pub struct Counts {
+    pub accepted: u64,
+    pub sent: u64,
+    pub refused_14: u64,
+    pub refused_15: u64,
+    pub emptied: u64,
+    pub dummies: u64,
+}
+
+/// Paper 02, S-7: "counts run to 64 bits and then begin again at zero."
+fn add(count: &mut u64, more: u64) {
+    *count = count.wrapping_add(more);
+}
+
 /// One active client. `pool` matters only if private, `burst` and `level` only if indifferent.
+/// Paper 02, S-7: "The client's record gains these", the counts.
 #[derive(Debug, Clone, PartialEq, Eq)]
 pub struct Client {
     pub kind: u32,
@@ -67,14 +86,17 @@ pub struct Client {
     pub queue: VecDeque<Packet>,
     pub pool: u32,
     pub level: u32,
+    pub counts: Counts,
 }
 
 impl Client {
     /// "A join starts with an empty queue, a pool of 0" and, if indifferent, by paper 02, S-4: "A
     /// bucket now begins at level 0 after a join and after a change from private to indifferent."
-    /// A private client has no bucket; its level is 0 and stays so.
+    /// A private client has no bucket; its level is 0 and stays so. The counts are "since the join"
+    /// (S-7), and start at 0.
     fn new(kind: u32, rate: u32, burst: u32) -> Client {
-        Client { kind, rate, burst, queue: VecDeque::new(), pool: 0, level: 0 }
+        let (queue, counts) = (VecDeque::new(), Counts::default());
+        Client { kind, rate, burst, queue, pool: 0, level: 0, counts }
     }
 }
 
@@ -100,9 +122,10 @@ impl Core {
         Core { opened: None }
     }
 
-    /// "the first [check] that fails gives its number, and nothing changes."
+    /// "the first [check] that fails gives its number, and nothing changes", but for a count.
     pub fn perform(&mut self, call: &Call) -> Answer {
         if let Some(number) = self.refusal(call) {
+            self.count_refusal(call, number);
             return Answer::Refused(number);
         }
         if let Call::Open { threshold, discipline, seed } = *call {
@@ -131,6 +154,19 @@ impl Core {
             Call::Load { id, count } => opened.load_refusal(id, count),
             Call::Arrive { id, length, .. } => opened.arrive_refusal(id, length),
             Call::Tick => None,
+        }
+    }
+
+    /// Paper 02, S-7: "A refusal 14 or 15 now changes its own count and nothing else." Both are an
+    /// arrival's alone, and by then its id is known to be active.
+    fn count_refusal(&mut self, call: &Call, number: u32) {
+        let (Some(opened), Call::Arrive { id, .. }) = (&mut self.opened, call) else {
+            return;
+        };
+        match number {
+            14 => add(&mut opened.client_mut(*id).counts.refused_14, 1),
+            15 => add(&mut opened.client_mut(*id).counts.refused_15, 1),
+            _ => {}
         }
     }
 }
@@ -330,11 +366,15 @@ impl Opened {
 
     /// "If the type differs, queue and pool become empty", and a new indifferent client's bucket
     /// "begins at level 0" (paper 02, S-4). "If the type stays, queue and pool stay, and a level
-    /// above the new burst × 1024 comes down to it"; any other level stays as it is.
+    /// above the new burst × 1024 comes down to it"; any other level stays as it is. The counts are
+    /// "since the join" (S-7), and stay too; the packets that waited are "emptied out".
     fn change(&mut self, id: u32, kind: u32, rate: u32, burst: u32) {
         let client = self.client_mut(id);
         if client.kind != kind {
+            let mut counts = client.counts.clone();
+            add(&mut counts.emptied, client.queue.len() as u64);
             *client = Client::new(kind, rate, burst);
+            client.counts = counts;
         } else {
             client.rate = rate;
             client.burst = burst;
@@ -344,7 +384,7 @@ impl Opened {
         }
     }
 
-    /// "Leave empties everything of the id."
+    /// "Leave empties everything of the id", its counts too.
     fn leave(&mut self, id: u32) {
         self.clients[id as usize] = None;
     }
@@ -355,12 +395,13 @@ impl Opened {
     }
 
     /// "Arrive puts one packet last in its client's queue. For an indifferent client it also
-    /// takes 1024 from the bucket."
+    /// takes 1024 from the bucket." It is "accepted" (S-7).
     fn arrive(&mut self, id: u32, handle: u64, length: u32) {
         let number = self.accepted;
         self.accepted += 1;
         let client = self.client_mut(id);
         client.queue.push_back(Packet { handle, length, number });
+        add(&mut client.counts.accepted, 1);
         if client.kind == INDIFFERENT {
             client.level -= 1024;
         }
@@ -440,7 +481,7 @@ impl Opened {
     }
 
     /// Rule 2: "The one drawn sends its first packet; without one, a dummy, which lowers its
-    /// pool by 1; without either, the slot idles."
+    /// pool by 1; without either, the slot idles." Such a dummy is one of the "dummies sent" (S-7).
     fn private_slot(&mut self, private: &[u32]) -> Told {
         let (id, draw) = self.draw(private);
         if let Some(outcome) = self.send_first(id) {
@@ -449,16 +490,18 @@ impl Opened {
         let client = self.client_mut(id);
         if client.pool > 0 {
             client.pool -= 1;
+            add(&mut client.counts.dummies, 1);
             return (Outcome::Dummy { id }, draw);
         }
         (Outcome::Idle { id }, draw)
     }
 
-    /// Takes out a client's first packet, if it has one. "Padding is 1518 minus the length for
-    /// a private client and 0 for an indifferent one."
+    /// Takes out a client's first packet, if it has one, which is then "sent" (S-7). "Padding is
+    /// 1518 minus the length for a private client and 0 for an indifferent one."
     fn send_first(&mut self, id: u32) -> Option<Outcome> {
         let client = self.client_mut(id);
         let packet = client.queue.pop_front()?;
+        add(&mut client.counts.sent, 1);
         let padding = if client.kind == PRIVATE { 1518 - packet.length } else { 0 };
         Some(Outcome::Real { id, handle: packet.handle, length: packet.length, padding })
     }
@@ -509,6 +552,26 @@ impl Core {
     pub fn tick(&mut self) -> Option<Told> {
         let opened = self.opened.as_mut()?;
         Some(opened.tick())
+    }
+}
+
+/// What S-7 of paper 02 asks of a core: this function only looks.
+#[allow(dead_code)] // not every program asks
+impl Core {
+    /// The sheet of an id: its counts, in the order of S-7, "accepted, sent, refused 14, refused
+    /// 15, emptied out, dummies sent", or the number with which it is refused. "An id not active
+    /// gives 5", and before it, as for the calls, an unopened core gives 19 and an id above 63
+    /// gives 4.
+    pub fn counts(&self, id: u32) -> Result<[u64; 6], u32> {
+        let Some(opened) = &self.opened else {
+            return Err(19);
+        };
+        if let Some(number) = opened.id_refusal(id) {
+            return Err(number);
+        }
+        let Counts { accepted, sent, refused_14, refused_15, emptied, dummies } =
+            opened.client(id).counts;
+        Ok([accepted, sent, refused_14, refused_15, emptied, dummies])
     }
 }
 

@@ -1,8 +1,9 @@
-//! The slot core of paper 01, as amended by S-1, S-4, S-6 and S-9 of paper 02, its script, the
-//! figure of S-14, the fair rates of S-8 and the sheets of S-5, written from these words and, for
-//! the sentences of the sheets, the manual's alone.
+//! The slot core of paper 01, as amended by S-1, S-4, S-6, S-7 and S-9 of paper 02, its script, the
+//! figure of S-14, the fair rates of S-8, the sheets of S-5 and the count sheets of S-7, written
+//! from these words and, for the sentences of S-5's sheets, the manual's alone.
 
 pub mod core;
+pub mod counts;
 pub mod fair;
 pub mod maker;
 pub mod script;
@@ -12,6 +13,8 @@ pub mod sheet;
 mod check;
 #[cfg(test)]
 mod check_buckets;
+#[cfg(test)]
+mod check_counts;
 #[cfg(test)]
 mod check_fair;
 #[cfg(test)]

@@ -193,7 +193,7 @@ pub fn number(text: &[u8]) -> Option<u32> {
 
 /// The core behind a script and the script's printout; nothing for a "whole text over 60,000
 /// bytes". "An empty script prints nothing."
-fn carry_out(text: &[u8]) -> Option<(Core, String)> {
+pub(crate) fn carry_out(text: &[u8]) -> Option<(Core, String)> {
     let mut core = Core::new();
     let mut printout = String::new();
     for line in lines(text)? {

@@ -6,21 +6,23 @@
 //! `--sure N => ANSWER` is no line of the text: it asks for S-14's figure (paper 02) behind the lines above it, and ANSWER is all
 //! that is printed then. `--operator => ANSWER` and `--tenant I => ANSWER`, before which `N times` may stand, are none either. They
 //! are of the sheets of S-5: the lines between two empty ones are a text by themselves too, and all answers there with the same
-//! option, in order, are what is printed for that text with it.
+//! option, in order, are what is printed for that text with it. `--counts => ANSWER` asks for the count sheets of S-7 behind the
+//! lines of the part above it: such lines that stand together are all that is printed then, and `nothing` is no line at all.
 //!
 //! A file that ends in `.texts` has texts for FAIR (paper 02, S-8). Each goes up to the next empty line, and a line that prints
 //! nothing stands without an answer. `=> ANSWER` is no line of the text, but one that is printed for all of it.
 
 use tests::program;
 
-/// What is asked for: the printout of a script, the figure for so many ticks behind it, one of its sheets, or the rates for a text
-/// of demands.
+/// What is asked for: the printout of a script, the figure for so many ticks behind it, one of its sheets, the count sheets behind
+/// it, or the rates for a text of demands.
 #[derive(Clone, Copy, PartialEq)]
 enum Asked {
     Printout,
     Sure(u32),
     Operator,
     Tenant(u32),
+    Counts,
     Rates,
 }
 
@@ -42,6 +44,7 @@ fn main() {
     cases.extend(whole_texts());
     cases.extend(whole_texts_asked());
     cases.extend(whole_sheets());
+    cases.extend(whole_counts());
     cases.extend(whole_lists());
     cases.extend(whole_texts_of_demands());
     let failed = cases.iter().filter(|case| !holds(slots, fair, case)).count();
@@ -56,6 +59,7 @@ fn holds(slots: &str, fair: &str, case: &Case) -> bool {
         Asked::Sure(n) => ("slots", program::run_sure(slots, n, &case.text), second::script::sure(&case.text, n)),
         Asked::Operator => ("slots", program::run_operator(slots, &case.text), second::sheet::operator(&case.text)),
         Asked::Tenant(id) => ("slots", program::run_tenant(slots, id, &case.text), second::sheet::tenant(&case.text, id)),
+        Asked::Counts => ("slots", program::run_counts(slots, &case.text), second::counts::sheets(&case.text)),
         Asked::Rates => ("fair", program::run(fair, &case.text), second::fair::run(&case.text)),
     };
     let first = run.ended_well && agrees(who, &run.printout, case);
@@ -98,6 +102,7 @@ fn read(path: &str) -> Vec<Case> {
         let place = format!("{path}:{number}");
         match option_of(line) {
             Some(Asked::Sure(n)) => asked.push(question(&place, n, &case.text, answer)),
+            Some(Asked::Counts) => add_counts(&mut asked, &place, &case.text[begin..], answer),
             Some(sheet) => (0..times).for_each(|_| lines_of(&mut sheets, sheet, &place, line).add_answer(answer)),
             None => (0..times).for_each(|_| case.add(line, closed, answer)),
         }
@@ -113,7 +118,18 @@ fn option_of(line: &str) -> Option<Asked> {
     match (line.strip_prefix("--sure "), line.strip_prefix("--tenant ")) {
         (Some(n), _) => Some(Asked::Sure(number(n))),
         (_, Some(id)) => Some(Asked::Tenant(number(id))),
+        _ if line == "--counts" => Some(Asked::Counts),
         _ => (line == "--operator").then_some(Asked::Operator),
+    }
+}
+
+/// A line of the count sheets behind a text, which goes on with those before it.
+fn add_counts(asked: &mut Vec<Case>, place: &str, text: &[u8], answer: &str) {
+    if !asked.last().is_some_and(|case| case.asked == Asked::Counts && case.text == text) {
+        asked.push(counts(&format!("{place}, --counts"), text.to_vec(), ""));
+    }
+    if let (Some(case), true) = (asked.last_mut(), answer != "nothing") {
+        case.add_answer(answer);
     }
 }
 
@@ -192,6 +208,11 @@ fn read_texts(path: &str) -> Vec<Case> {
 /// A text of demands and all that is printed for it.
 fn rates(name: &str, text: Vec<u8>, expected: &str) -> Case {
     Case { name: name.to_string(), asked: Asked::Rates, text, expected: expected.as_bytes().to_vec() }
+}
+
+/// A text and all count sheets behind it.
+fn counts(name: &str, text: Vec<u8>, expected: &str) -> Case {
+    Case { name: name.to_string(), asked: Asked::Counts, text, expected: expected.as_bytes().to_vec() }
 }
 
 /// The figure for n ticks behind a text: "the only line printed".
@@ -302,6 +323,30 @@ fn whole_sheets() -> Vec<Case> {
         both("a million bytes", filled(1_000_000), "(refused 18)\n"),
     ];
     cases.into_iter().flatten().collect()
+}
+
+/// The same limit for the count sheets. Behind the 35 bytes of an open and a join 59,965 bytes are 1,817 packets, each with the tick
+/// that sends it, and four line feeds. And the sheets of all ids, which join by falling id.
+fn whole_counts() -> Vec<Case> {
+    let opened = b"(open 1 0 1)\n(join 63 (private 1))\n".to_vec();
+    let sent = [&opened[..], &b"(arrive 63 (packet 0 64))\n(tick)\n".repeat(1817)].concat();
+    let filled = |bytes: usize| [&sent[..], &vec![b'\n'; bytes - sent.len()]].concat();
+    let joins: String = (0..64).rev().map(|id| format!("(join {id} (private 16))\n")).collect();
+    let zeros: String = (0..64).map(|id| format!("(counts {id} 0 0 0 0 0 0)\n")).collect();
+    let case = |name: &str, text: Vec<u8>, expected: &str| counts(&format!("{name}, --counts"), text, expected);
+    vec![
+        case("an empty script", Vec::new(), ""),
+        case("one line feed", b"\n".to_vec(), ""),
+        case("60,000 zero bytes", vec![0; 60_000], ""),
+        case("59,997 bytes of ticks without an open", b"(tick)\n".repeat(8571), ""),
+        case("64 clients", format!("(open 1024 0 1)\n{joins}").into_bytes(), &zeros),
+        case("60,000 bytes", filled(60_000), "(counts 63 1817 1817 0 0 0 0)\n"),
+        case("60,001 bytes", filled(60_001), "(refused 18)\n"),
+        case("60,001 zero bytes", vec![0; 60_001], "(refused 18)\n"),
+        case("65,536 bytes", filled(65_536), "(refused 18)\n"),
+        case("65,537 bytes", filled(65_537), "(refused 18)\n"),
+        case("a million bytes", filled(1_000_000), "(refused 18)\n"),
+    ]
 }
 
 /// Lists of 63, 64 and 65 demands, too long to be written down. "a list over 64" is also one whose ids pass 63 or do not rise;

@@ -10,6 +10,7 @@ pub mod lines;
 pub mod pair;
 pub mod program;
 pub mod random;
+pub mod recount;
 pub mod scripts;
 pub mod seeds;
 pub mod sentences;

@@ -30,6 +30,11 @@ pub fn run_tenant(program: &str, id: u32, text: &[u8]) -> Run {
     run_with(program, &["--tenant", &id.to_string()], text)
 }
 
+/// One run that asks for the count sheets behind a script (paper 02, S-7).
+pub fn run_counts(program: &str, text: &[u8]) -> Run {
+    run_with(program, &["--counts"], text)
+}
+
 /// One run. The text is written by a thread of its own: a program that prints before it has read
 /// everything would otherwise wait for us while we wait for it.
 fn run_with(program: &str, arguments: &[&str], text: &[u8]) -> Run {

@@ -1,4 +1,5 @@
 // The benchmark's sequences over the proved calls, exported to C. The same sequences stand in bench/ in C.
+use counts::COUNTS;
 use definitions::Answer;
 use definitions::IDS;
 use definitions::Outcome;
@@ -79,15 +80,17 @@ fn join_ids(
     handles: &[u64; STORE],
     lengths: &[u16; STORE],
     links: &[u32; LINKS],
+    counts: &mut [u64; COUNTS],
     first: u32,
     end: u32,
     kind: u32,
     rate: u32,
     burst: u32,
 ) -> Control
-    requires { ⌜ Valid control (tables (now terms) (now stocks) (now handles) (now lengths) (now links)) ⌝ }
+    requires { ⌜ Valid control (tables (now terms) (now stocks) (now handles) (now lengths) (now links) (now counts)) ⌝ }
     ensures { λ r. ⌜ Valid r
-        (tables (now (terms .exit)) (now (stocks .exit)) (now (handles .entry)) (now (lengths .entry)) (now (links .entry))) ⌝ }
+        (tables (now (terms .exit)) (now (stocks .exit)) (now (handles .entry)) (now (lengths .entry)) (now (links .entry))
+        (now (counts .exit))) ⌝ }
 {
     let mut at = control;
     let mut id = first;
@@ -99,6 +102,7 @@ fn join_ids(
             handles,
             lengths,
             links,
+            counts,
             id,
             kind,
             rate,
@@ -118,11 +122,13 @@ fn fill_queue(
     handles: &mut [u64; STORE],
     lengths: &mut [u16; STORE],
     links: &mut [u32; LINKS],
+    counts: &mut [u64; COUNTS],
     id: u32,
     each: u32,
 ) -> Control
-    requires { ⌜ Valid control (tables (now terms) (now stocks) (now handles) (now lengths) (now links)) ⌝ }
-    ensures { λ r. ⌜ Valid r (tables (now (terms .exit)) (now (stocks .exit)) (now (handles .exit)) (now (lengths .exit)) (now (links .exit))) ⌝ }
+    requires { ⌜ Valid control (tables (now terms) (now stocks) (now handles) (now lengths) (now links) (now counts)) ⌝ }
+    ensures { λ r. ⌜ Valid r (tables (now (terms .exit)) (now (stocks .exit)) (now (handles .exit)) (now (lengths .exit)) (now (links .exit))
+        (now (counts .exit))) ⌝ }
 {
     let mut at = control;
     let mut k: u32 = 0;
@@ -131,7 +137,17 @@ fn fill_queue(
             handle: id as u64,
             length: 64,
         };
-        let r = traffic::arrive(at, terms, stocks, handles, lengths, links, id, packet);
+        let r = traffic::arrive(
+            at,
+            terms,
+            stocks,
+            handles,
+            lengths,
+            links,
+            counts,
+            id,
+            packet,
+        );
         at = r.control;
         k += 1;
     }
@@ -146,16 +162,18 @@ fn fill_queues(
     handles: &mut [u64; STORE],
     lengths: &mut [u16; STORE],
     links: &mut [u32; LINKS],
+    counts: &mut [u64; COUNTS],
     n: u32,
     each: u32,
 ) -> Control
-    requires { ⌜ Valid control (tables (now terms) (now stocks) (now handles) (now lengths) (now links)) ⌝ }
-    ensures { λ r. ⌜ Valid r (tables (now (terms .exit)) (now (stocks .exit)) (now (handles .exit)) (now (lengths .exit)) (now (links .exit))) ⌝ }
+    requires { ⌜ Valid control (tables (now terms) (now stocks) (now handles) (now lengths) (now links) (now counts)) ⌝ }
+    ensures { λ r. ⌜ Valid r (tables (now (terms .exit)) (now (stocks .exit)) (now (handles .exit)) (now (lengths .exit)) (now (links .exit))
+        (now (counts .exit))) ⌝ }
 {
     let mut at = control;
     let mut id: u32 = 0;
     while id < n {
-        at = fill_queue(at, terms, stocks, handles, lengths, links, id, each);
+        at = fill_queue(at, terms, stocks, handles, lengths, links, counts, id, each);
         id += 1;
     }
     at
@@ -199,15 +217,17 @@ fn refused_round(
     handles: &mut [u64; STORE],
     lengths: &mut [u16; STORE],
     links: &mut [u32; LINKS],
+    counts: &mut [u64; COUNTS],
     id: u32,
     other: u32,
     beyond: u32,
     k: u32,
     sum: u64,
 ) -> Tally
-    requires { ⌜ Valid control (tables (now terms) (now stocks) (now handles) (now lengths) (now links)) × (beyond ≤ 64) ⌝ }
+    requires { ⌜ Valid control (tables (now terms) (now stocks) (now handles) (now lengths) (now links) (now counts)) × (beyond ≤ 64) ⌝ }
     ensures { λ r. ⌜ Valid (r .control)
-        (tables (now (terms .exit)) (now (stocks .exit)) (now (handles .exit)) (now (lengths .exit)) (now (links .exit))) ⌝ }
+        (tables (now (terms .exit)) (now (stocks .exit)) (now (handles .exit)) (now (lengths .exit)) (now (links .exit))
+        (now (counts .exit))) ⌝ }
 {
     let no_sender = beyond + k % 8;
     let no_loader = beyond + k % 4;
@@ -220,6 +240,7 @@ fn refused_round(
         handles,
         lengths,
         links,
+        counts,
         no_sender,
         right,
     );
@@ -231,6 +252,7 @@ fn refused_round(
         handles,
         lengths,
         links,
+        counts,
         no_loader,
         k,
     );
@@ -242,6 +264,7 @@ fn refused_round(
         handles,
         lengths,
         links,
+        counts,
         id,
         2,
         1,
@@ -255,6 +278,7 @@ fn refused_round(
         handles,
         lengths,
         links,
+        counts,
         other,
         short,
     );
@@ -273,14 +297,16 @@ fn refused_rounds(
     handles: &mut [u64; STORE],
     lengths: &mut [u16; STORE],
     links: &mut [u32; LINKS],
+    counts: &mut [u64; COUNTS],
     n: u32,
     beyond: u32,
     rounds: u32,
 ) -> Tally
-    requires { ⌜ Valid control (tables (now terms) (now stocks) (now handles) (now lengths) (now links)) × (1 ≤ n)
+    requires { ⌜ Valid control (tables (now terms) (now stocks) (now handles) (now lengths) (now links) (now counts)) × (1 ≤ n)
         × (beyond ≤ 64) ⌝ }
     ensures { λ r. ⌜ Valid (r .control)
-        (tables (now (terms .exit)) (now (stocks .exit)) (now (handles .exit)) (now (lengths .exit)) (now (links .exit))) ⌝ }
+        (tables (now (terms .exit)) (now (stocks .exit)) (now (handles .exit)) (now (lengths .exit)) (now (links .exit))
+        (now (counts .exit))) ⌝ }
 {
     let mut at = Tally { control, sum: 0 };
     let mut id: u32 = 0;
@@ -294,6 +320,7 @@ fn refused_rounds(
             handles,
             lengths,
             links,
+            counts,
             id,
             other,
             beyond,
@@ -314,21 +341,33 @@ fn traffic_round(
     handles: &mut [u64; STORE],
     lengths: &mut [u16; STORE],
     links: &mut [u32; LINKS],
+    counts: &mut [u64; COUNTS],
     id: u32,
     k: u32,
     sum: u64,
 ) -> Tally
-    requires { ⌜ Valid control (tables (now terms) (now stocks) (now handles) (now lengths) (now links)) ⌝ }
+    requires { ⌜ Valid control (tables (now terms) (now stocks) (now handles) (now lengths) (now links) (now counts)) ⌝ }
     ensures { λ r. ⌜ Valid (r .control)
-        (tables (now (terms .exit)) (now (stocks .exit)) (now (handles .exit)) (now (lengths .exit)) (now (links .exit))) ⌝ }
+        (tables (now (terms .exit)) (now (stocks .exit)) (now (handles .exit)) (now (lengths .exit)) (now (links .exit))
+        (now (counts .exit))) ⌝ }
 {
     let packet = Packet {
         handle: k as u64,
         length: 64 + k % 1024,
     };
-    let a = traffic::arrive(control, terms, stocks, handles, lengths, links, id, packet);
+    let a = traffic::arrive(
+        control,
+        terms,
+        stocks,
+        handles,
+        lengths,
+        links,
+        counts,
+        id,
+        packet,
+    );
     let first = a.answer;
-    let ticked = slot::tick(a.control, terms, stocks, handles, lengths, links);
+    let ticked = slot::tick(a.control, terms, stocks, handles, lengths, links, counts);
     let b = ticked.answered;
     let second = b.answer;
     let last = b.control;
@@ -345,13 +384,15 @@ pub fn traffic_rounds(
     handles: &mut [u64; STORE],
     lengths: &mut [u16; STORE],
     links: &mut [u32; LINKS],
+    counts: &mut [u64; COUNTS],
     first: u32,
     n: u32,
     rounds: u32,
 ) -> Tally
-    requires { ⌜ Valid control (tables (now terms) (now stocks) (now handles) (now lengths) (now links)) × (first < n) ⌝ }
+    requires { ⌜ Valid control (tables (now terms) (now stocks) (now handles) (now lengths) (now links) (now counts)) × (first < n) ⌝ }
     ensures { λ r. ⌜ Valid (r .control)
-        (tables (now (terms .exit)) (now (stocks .exit)) (now (handles .exit)) (now (lengths .exit)) (now (links .exit))) ⌝ }
+        (tables (now (terms .exit)) (now (stocks .exit)) (now (handles .exit)) (now (lengths .exit)) (now (links .exit))
+        (now (counts .exit))) ⌝ }
 {
     let mut at = Tally { control, sum: 0 };
     let mut id = first;
@@ -364,6 +405,7 @@ pub fn traffic_rounds(
             handles,
             lengths,
             links,
+            counts,
             id,
             k,
             at.sum,
@@ -416,12 +458,14 @@ pub fn run_stage(
     handles: &mut [u64; STORE],
     lengths: &mut [u16; STORE],
     links: &mut [u32; LINKS],
+    counts: &mut [u64; COUNTS],
     n: u32,
     s: Stage,
 ) -> Tally
-    requires { ⌜ Valid control (tables (now terms) (now stocks) (now handles) (now lengths) (now links)) × (s .from < s .to) ⌝ }
+    requires { ⌜ Valid control (tables (now terms) (now stocks) (now handles) (now lengths) (now links) (now counts)) × (s .from < s .to) ⌝ }
     ensures { λ r. ⌜ Valid (r .control)
-        (tables (now (terms .exit)) (now (stocks .exit)) (now (handles .exit)) (now (lengths .exit)) (now (links .exit))) ⌝ }
+        (tables (now (terms .exit)) (now (stocks .exit)) (now (handles .exit)) (now (lengths .exit)) (now (links .exit))
+        (now (counts .exit))) ⌝ }
 {
     let joined = join_ids(
         control,
@@ -430,13 +474,24 @@ pub fn run_stage(
         handles,
         lengths,
         links,
+        counts,
         s.first,
         s.end,
         s.kind,
         s.rate,
         s.burst,
     );
-    let filled = fill_queues(joined, terms, stocks, handles, lengths, links, n, s.each);
+    let filled = fill_queues(
+        joined,
+        terms,
+        stocks,
+        handles,
+        lengths,
+        links,
+        counts,
+        n,
+        s.each,
+    );
     traffic_rounds(
         filled,
         terms,
@@ -444,6 +499,7 @@ pub fn run_stage(
         handles,
         lengths,
         links,
+        counts,
         s.from,
         s.to,
         s.rounds,
@@ -458,20 +514,33 @@ fn run_stages(
     handles: &mut [u64; STORE],
     lengths: &mut [u16; STORE],
     links: &mut [u32; LINKS],
+    counts: &mut [u64; COUNTS],
     n: u32,
     indifferents: u32,
     each: u32,
     rounds: u32,
 ) -> Tally
-    requires { ⌜ Valid control (tables (now terms) (now stocks) (now handles) (now lengths) (now links)) × (1 ≤ n) × (n ≤ 2 * ids) ⌝ }
+    requires { ⌜ Valid control (tables (now terms) (now stocks) (now handles) (now lengths) (now links) (now counts))
+        × (1 ≤ n) × (n ≤ 2 * ids) ⌝ }
     ensures { λ r. ⌜ Valid (r .control)
-        (tables (now (terms .exit)) (now (stocks .exit)) (now (handles .exit)) (now (lengths .exit)) (now (links .exit))) ⌝ }
+        (tables (now (terms .exit)) (now (stocks .exit)) (now (handles .exit)) (now (lengths .exit)) (now (links .exit))
+        (now (counts .exit))) ⌝ }
 {
     let mut at = Tally { control, sum: 0 };
     let mut k: u32 = 0;
     while k < 2 {
         let s = stage_of(k, n, indifferents, each, rounds);
-        at = run_stage(at.control, terms, stocks, handles, lengths, links, n, s);
+        at = run_stage(
+            at.control,
+            terms,
+            stocks,
+            handles,
+            lengths,
+            links,
+            counts,
+            n,
+            s,
+        );
         k += 1;
     }
     at
@@ -512,6 +581,7 @@ pub extern "C" fn bench_run(
     let mut handles = [0; STORE];
     let mut lengths = [0; STORE];
     let mut links = [0; LINKS];
+    let mut counts = [0; COUNTS];
     let shut = opening::unopened();
     let opened = opening::open(
         shut,
@@ -520,6 +590,7 @@ pub extern "C" fn bench_run(
         &mut handles,
         &mut lengths,
         &mut links,
+        &mut counts,
         1024,
         discipline,
         1,
@@ -533,6 +604,7 @@ pub extern "C" fn bench_run(
         &mut handles,
         &mut lengths,
         &mut links,
+        &mut counts,
         n,
         indifferents,
         depth - 1,
@@ -548,6 +620,7 @@ pub extern "C" fn bench_run(
         &mut handles,
         &mut lengths,
         &mut links,
+        &mut counts,
         n,
         mode,
         rounds,

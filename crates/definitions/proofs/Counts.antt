@@ -28,8 +28,8 @@ use Rattle.definitions.specs.Core.{step}
 use Rattle.definitions.specs.History.{History, start, _then_, Trace, clientOf, stockOf, scheduler, after, answerAt, dealingAt, traceOf}
 use Rattle.definitions.specs.Traces.{indifferentBy, indifferentAt, indifferentSince}
 use Rattle.definitions.specs.Stretch.{oneIf}
-use Rattle.definitions.specs.Counts.{Count, countAccepted, countSent, count14, count15, countEmptied, countDummies, column, Tally, zeros, Entry, nothing, more, anew, entryOfDrop, keepsType, entryOfAccepted, entryOfRefused, entryOfSlot, entryOf, entered, unsettled, tallied, gained, wrapped, wrappedPlus, countsAfter}
-use Rattle.definitions.specs.Counted.{countsBehind, waitingIn, Settles, madeSo, DropsCounted, Counted}
+use Rattle.definitions.specs.Counts.{Count, countAccepted, countSent, count14, count15, countEmptied, countDummies, column, Tally, zeros, Entry, nothing, more, anew, entryOfDrop, keepsType, entryOfAccepted, entryOfRefused, entryOfSlot, entryOf, entered, unsettled, tallied, gained, wrapped, wrappedPlus, countsAfter, Whole, wholeNew, wholeAfter}
+use Rattle.definitions.specs.Counted.{countsBehind, wholeBehind, waitingIn, Settles, madeSo, DropsCounted, Counted}
 use Rattle.definitions.proofs.Laws.Tests.{T-true, true-false, eqb-cases, eqb-same, cond-both}
 use Rattle.definitions.proofs.Laws.Checked.{Passed, checked-cases}
 use Rattle.definitions.proofs.Laws.Clients.{put-same, put-other, put-cases}
@@ -317,6 +317,12 @@ module _ (core : Core) (id : ℕ) (tally : Tally) (narrow : (count : Count) → 
 
       after-wrapped : (count : Count) → entered wrappedPlus entry tally count ≡ wrapped (entered _+_ entry whole count)
       after-wrapped = entered-wrapped entry tally whole whole-wrapped
+
+-- core and counts behind a history, one beside the other
+pub whole-behind : (h : History) → wholeBehind wholeNew h ≡ record { core = after scheduler h; counts = countsBehind h }
+unfolding wholeBehind wholeAfter after countsBehind answerAt
+whole-behind start = refl
+whole-behind (h then c) = ap (λ (w : Whole). wholeAfter w c) (whole-behind h)
 
 -- ---- What is gained.
 

@@ -19,6 +19,7 @@ pub mod Sameness
 pub mod ToldNotes
 pub mod Stretches
 pub mod Counts
+pub mod ChosenSheet
 pub mod CountExamples
 pub mod Fairness
 -- the versions that have to break the contract

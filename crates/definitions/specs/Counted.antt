@@ -12,14 +12,20 @@ use Rattle.definitions.specs.Event.{Event, Arrive}
 use Rattle.definitions.specs.Sizes.{countSpan}
 use Rattle.definitions.specs.State.{Core}
 use Rattle.definitions.specs.Core.{step}
-use Rattle.definitions.specs.History.{History, start, _then_, Trace, scheduler, after, answerAt, traceOf, stockOf}
+use Rattle.definitions.specs.History.{History, start, _then_, Place, calls, scheduler, after, answerAt, traceOf, stockOf}
 use Rattle.definitions.specs.Traces.{indifferentAt}
-use Rattle.definitions.specs.Counts.{Count, countAccepted, countSent, count14, count15, countEmptied, Tally, zeros, tallied, gained, wrapped, wrappedPlus, countsAfter}
+use Rattle.definitions.specs.Counts.{Count, countAccepted, countSent, count14, count15, countEmptied, Tally, zeros, tallied, gained, wrapped, wrappedPlus, countsAfter, countSheet, Whole, wholeAfter}
+use Rattle.definitions.specs.Sameness.{kept}
 
 -- the counts that are kept behind a history
 unfoldable pub countsBehind : History → ℕ → Tally
 countsBehind start = λ id. zeros
 countsBehind (h then c) = countsAfter (after scheduler h) c (answerAt scheduler h c) (countsBehind h)
+
+-- core and counts behind some calls, from any on
+unfoldable pub wholeBehind : Whole → History → Whole
+wholeBehind w start = w
+wholeBehind w (h then c) = wholeAfter (wholeBehind w h) c
 
 -- how many packets of an id wait in a core
 unfoldable pub waitingIn : Core → ℕ → ℕ
@@ -72,3 +78,15 @@ pub record Counted : Type 0 where
   -- "what each count has gained after the join or change that made it so": the sheet is what stood there then, and that
   pub gains : (h : History) (id : ℕ) → T (indifferentAt id (traceOf scheduler h)) → (count : Count)
       → countsBehind h id count ≡ wrapped (countsBehind (madeSo id h) id count + gained id (traceOf scheduler h) count)
+
+-- "The chosen client's sheet is as private as its queue": what billing gets for the chosen client, its counts as they are kept or the
+-- number of a refusal, at every place that demand 3 compares. What the others' sheets have in common is part of `Sameness`.
+unfoldable pub SheetSame : Type 0
+SheetSame =
+    (chosen : ℕ) (H K : History)
+    → kept chosen (traceOf scheduler H) ≡ kept chosen (traceOf scheduler K)
+    → (h k : History)
+    → Place h H
+    → Place k K
+    → calls (kept chosen (traceOf scheduler h)) ≡ calls (kept chosen (traceOf scheduler k))
+    → countSheet (after scheduler h) (countsBehind h) chosen ≡ countSheet (after scheduler k) (countsBehind k) chosen

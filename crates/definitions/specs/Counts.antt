@@ -18,6 +18,7 @@ use Rattle.definitions.specs.Sizes.{indifferentKind, countSpan}
 use Rattle.definitions.specs.Client.{isIndifferent}
 use Rattle.definitions.specs.State.{Core, unopened, running}
 use Rattle.definitions.specs.Checks.{firstFailed, activeChecks}
+use Rattle.definitions.specs.Core.{step}
 use Rattle.definitions.specs.History.{Trace, begin, _and_, clientOf, stockOf}
 use Rattle.definitions.specs.Traces.{indifferentAt}
 
@@ -155,3 +156,19 @@ unlessUnavailable (suc n) tally = Unavailable (suc n)
 unfoldable pub countSheet : Core → (ℕ → Tally) → ℕ → Sheet
 countSheet unopened counts id = Unavailable 19
 countSheet (running s) counts id = unlessUnavailable (firstFailed (activeChecks s id [])) (counts id)
+
+-- ---- All that a call may change: the core, and the counts beside it.
+
+pub record Whole : Type 0 where
+  pub core : Core
+  pub counts : ℕ → Tally
+
+-- before any call
+abbrev pub wholeNew : Whole
+wholeNew = record { core = unopened; counts = λ id. zeros }
+
+unfoldable pub wholeAfter : Whole → Event → Whole
+wholeAfter w c = record {
+  core = step (w .core) c .core;
+  counts = countsAfter (w .core) c (step (w .core) c .answer) (w .counts);
+}

@@ -2,6 +2,7 @@
 // of its own, since the compiler inlines a tick into the rounds of `bench` only where nothing else there calls them.
 use bench::Stage;
 use bench::Tally;
+use counts::COUNTS;
 use definitions::BURST_LIMIT;
 use definitions::FIRST_COME;
 use definitions::IDS;
@@ -84,8 +85,10 @@ fn begin(
     handles: &mut [u64; STORE],
     lengths: &mut [u16; STORE],
     links: &mut [u32; LINKS],
+    counts: &mut [u64; COUNTS],
 ) -> Control
-    ensures { λ r. ⌜ Valid r (tables (now (terms .exit)) (now (stocks .exit)) (now (handles .exit)) (now (lengths .exit)) (now (links .exit))) ⌝ }
+    ensures { λ r. ⌜ Valid r (tables (now (terms .exit)) (now (stocks .exit)) (now (handles .exit)) (now (lengths .exit)) (now (links .exit))
+        (now (counts .exit))) ⌝ }
 {
     let shut = opening::unopened();
     let r = opening::open(
@@ -95,6 +98,7 @@ fn begin(
         handles,
         lengths,
         links,
+        counts,
         SHARES,
         FIRST_COME,
         1,
@@ -110,18 +114,20 @@ fn leave_ids(
     handles: &[u64; STORE],
     lengths: &[u16; STORE],
     links: &mut [u32; LINKS],
+    counts: &mut [u64; COUNTS],
     end: u32,
     before: u64,
 ) -> Tally
-    requires { ⌜ Valid control (tables (now terms) (now stocks) (now handles) (now lengths) (now links)) ⌝ }
+    requires { ⌜ Valid control (tables (now terms) (now stocks) (now handles) (now lengths) (now links) (now counts)) ⌝ }
     ensures { λ r. ⌜ Valid (r .control)
-        (tables (now (terms .exit)) (now (stocks .exit)) (now (handles .entry)) (now (lengths .entry)) (now (links .exit))) ⌝ }
+        (tables (now (terms .exit)) (now (stocks .exit)) (now (handles .entry)) (now (lengths .entry)) (now (links .exit))
+        (now (counts .exit))) ⌝ }
 {
     let mut at = control;
     let mut sum = before;
     let mut id: u32 = 0;
     while id < end {
-        let r = settings::leave(at, terms, stocks, handles, lengths, links, id);
+        let r = settings::leave(at, terms, stocks, handles, lengths, links, counts, id);
         let answer = r.answer;
         at = r.control;
         sum = bench::add(sum, answer);
@@ -138,13 +144,15 @@ fn change_ids(
     handles: &[u64; STORE],
     lengths: &[u16; STORE],
     links: &mut [u32; LINKS],
+    counts: &mut [u64; COUNTS],
     end: u32,
     plan: Plan,
     before: u64,
 ) -> Tally
-    requires { ⌜ Valid control (tables (now terms) (now stocks) (now handles) (now lengths) (now links)) ⌝ }
+    requires { ⌜ Valid control (tables (now terms) (now stocks) (now handles) (now lengths) (now links) (now counts)) ⌝ }
     ensures { λ r. ⌜ Valid (r .control)
-        (tables (now (terms .exit)) (now (stocks .exit)) (now (handles .entry)) (now (lengths .entry)) (now (links .exit))) ⌝ }
+        (tables (now (terms .exit)) (now (stocks .exit)) (now (handles .entry)) (now (lengths .entry)) (now (links .exit))
+        (now (counts .exit))) ⌝ }
 {
     let mut at = control;
     let mut sum = before;
@@ -157,6 +165,7 @@ fn change_ids(
             handles,
             lengths,
             links,
+            counts,
             id,
             plan.to,
             plan.rate,
@@ -177,16 +186,28 @@ fn empty_ids(
     handles: &[u64; STORE],
     lengths: &[u16; STORE],
     links: &mut [u32; LINKS],
+    counts: &mut [u64; COUNTS],
     end: u32,
     plan: Plan,
     sum: u64,
 ) -> Tally
-    requires { ⌜ Valid control (tables (now terms) (now stocks) (now handles) (now lengths) (now links)) ⌝ }
+    requires { ⌜ Valid control (tables (now terms) (now stocks) (now handles) (now lengths) (now links) (now counts)) ⌝ }
     ensures { λ r. ⌜ Valid (r .control)
-        (tables (now (terms .exit)) (now (stocks .exit)) (now (handles .entry)) (now (lengths .entry)) (now (links .exit))) ⌝ }
+        (tables (now (terms .exit)) (now (stocks .exit)) (now (handles .entry)) (now (lengths .entry)) (now (links .exit))
+        (now (counts .exit))) ⌝ }
 {
     if plan.to == 0 {
-        return leave_ids(control, terms, stocks, handles, lengths, links, end, sum);
+        return leave_ids(
+            control,
+            terms,
+            stocks,
+            handles,
+            lengths,
+            links,
+            counts,
+            end,
+            sum,
+        );
     }
     change_ids(
         control,
@@ -195,6 +216,7 @@ fn empty_ids(
         handles,
         lengths,
         links,
+        counts,
         end,
         plan,
         sum,
@@ -209,23 +231,27 @@ fn empty_rounds(
     handles: &[u64; STORE],
     lengths: &[u16; STORE],
     links: &mut [u32; LINKS],
+    counts: &mut [u64; COUNTS],
     end: u32,
     plan: Plan,
     rounds: u32,
 ) -> Tally
-    requires { ⌜ Valid control (tables (now terms) (now stocks) (now handles) (now lengths) (now links)) ⌝ }
+    requires { ⌜ Valid control (tables (now terms) (now stocks) (now handles) (now lengths) (now links) (now counts)) ⌝ }
     ensures { λ r. ⌜ Valid (r .control)
-        (tables (now (terms .exit)) (now (stocks .exit)) (now (handles .entry)) (now (lengths .entry)) (now (links .exit))) ⌝ }
+        (tables (now (terms .exit)) (now (stocks .exit)) (now (handles .entry)) (now (lengths .entry)) (now (links .exit))
+        (now (counts .exit))) ⌝ }
 {
     let kept_terms = *terms;
     let kept_stocks = *stocks;
     let kept_links = *links;
+    let kept_counts = *counts;
     let mut at = Tally { control, sum: 0 };
     let mut k: u32 = 0;
     while k < rounds {
         *terms = kept_terms;
         *stocks = kept_stocks;
         *links = kept_links;
+        *counts = kept_counts;
         at = empty_ids(
             control,
             terms,
@@ -233,6 +259,7 @@ fn empty_rounds(
             handles,
             lengths,
             links,
+            counts,
             end,
             plan,
             at.sum,
@@ -249,16 +276,28 @@ fn set_up(
     handles: &mut [u64; STORE],
     lengths: &mut [u16; STORE],
     links: &mut [u32; LINKS],
+    counts: &mut [u64; COUNTS],
     plan: Plan,
 ) -> Tally
     requires { ⌜ 1 ≤ plan .clients ⌝ }
     ensures { λ r. ⌜ Valid (r .control)
-        (tables (now (terms .exit)) (now (stocks .exit)) (now (handles .exit)) (now (lengths .exit)) (now (links .exit))) ⌝ }
+        (tables (now (terms .exit)) (now (stocks .exit)) (now (handles .exit)) (now (lengths .exit)) (now (links .exit))
+        (now (counts .exit))) ⌝ }
 {
     let first = crowd(plan);
     let second = own(plan);
-    let begun = begin(terms, stocks, handles, lengths, links);
-    let at = bench::run_stage(begun, terms, stocks, handles, lengths, links, IDS, first);
+    let begun = begin(terms, stocks, handles, lengths, links, counts);
+    let at = bench::run_stage(
+        begun,
+        terms,
+        stocks,
+        handles,
+        lengths,
+        links,
+        counts,
+        IDS,
+        first,
+    );
     bench::run_stage(
         at.control,
         terms,
@@ -266,6 +305,7 @@ fn set_up(
         handles,
         lengths,
         links,
+        counts,
         IDS,
         second,
     )
@@ -278,6 +318,7 @@ fn emptying(
     handles: &mut [u64; STORE],
     lengths: &mut [u16; STORE],
     links: &mut [u32; LINKS],
+    counts: &mut [u64; COUNTS],
     plan: Plan,
     end: u32,
     rounds: u32,
@@ -285,7 +326,7 @@ fn emptying(
     requires { ⌜ 1 ≤ plan .clients ⌝ }
 {
     let n = plan.clients;
-    let a = set_up(terms, stocks, handles, lengths, links, plan);
+    let a = set_up(terms, stocks, handles, lengths, links, counts, plan);
     let b = empty_rounds(
         a.control,
         terms,
@@ -293,11 +334,23 @@ fn emptying(
         handles,
         lengths,
         links,
+        counts,
         end,
         plan,
         rounds,
     );
-    let c = bench::traffic_rounds(b.control, terms, stocks, handles, lengths, links, 0, n, n);
+    let c = bench::traffic_rounds(
+        b.control,
+        terms,
+        stocks,
+        handles,
+        lengths,
+        links,
+        counts,
+        0,
+        n,
+        n,
+    );
     std::num::wrapping_add_u64(std::num::wrapping_add_u64(a.sum, b.sum), c.sum)
 }
 
@@ -329,12 +382,14 @@ pub extern "C" fn bench_emptying(
     let mut handles = [0; STORE];
     let mut lengths = [0; STORE];
     let mut links = [0; LINKS];
+    let mut counts = [0; COUNTS];
     emptying(
         &mut terms,
         &mut stocks,
         &mut handles,
         &mut lengths,
         &mut links,
+        &mut counts,
         plan,
         end,
         rounds,
@@ -348,11 +403,13 @@ fn open_rounds(
     handles: &mut [u64; STORE],
     lengths: &mut [u16; STORE],
     links: &mut [u32; LINKS],
+    counts: &mut [u64; COUNTS],
     rounds: u32,
 ) -> Tally
-    requires { ⌜ Valid control (tables (now terms) (now stocks) (now handles) (now lengths) (now links)) ⌝ }
+    requires { ⌜ Valid control (tables (now terms) (now stocks) (now handles) (now lengths) (now links) (now counts)) ⌝ }
     ensures { λ r. ⌜ Valid (r .control)
-        (tables (now (terms .exit)) (now (stocks .exit)) (now (handles .exit)) (now (lengths .exit)) (now (links .exit))) ⌝ }
+        (tables (now (terms .exit)) (now (stocks .exit)) (now (handles .exit)) (now (lengths .exit)) (now (links .exit))
+        (now (counts .exit))) ⌝ }
 {
     let mut at = control;
     let mut sum: u64 = 0;
@@ -365,6 +422,7 @@ fn open_rounds(
             handles,
             lengths,
             links,
+            counts,
             SHARES,
             FIRST_COME,
             k + 1,
@@ -384,6 +442,7 @@ fn opens(
     handles: &mut [u64; STORE],
     lengths: &mut [u16; STORE],
     links: &mut [u32; LINKS],
+    counts: &mut [u64; COUNTS],
     rounds: u32,
 ) -> u64 {
     let last = Stage {
@@ -397,9 +456,28 @@ fn opens(
         to: IDS,
         rounds: IDS,
     };
-    let begun = begin(terms, stocks, handles, lengths, links);
-    let a = open_rounds(begun, terms, stocks, handles, lengths, links, rounds);
-    let b = bench::run_stage(a.control, terms, stocks, handles, lengths, links, IDS, last);
+    let begun = begin(terms, stocks, handles, lengths, links, counts);
+    let a = open_rounds(
+        begun,
+        terms,
+        stocks,
+        handles,
+        lengths,
+        links,
+        counts,
+        rounds,
+    );
+    let b = bench::run_stage(
+        a.control,
+        terms,
+        stocks,
+        handles,
+        lengths,
+        links,
+        counts,
+        IDS,
+        last,
+    );
     std::num::wrapping_add_u64(a.sum, b.sum)
 }
 
@@ -411,12 +489,14 @@ pub extern "C" fn bench_opening(rounds: u32) -> u64 {
     let mut handles = [0; STORE];
     let mut lengths = [0; STORE];
     let mut links = [0; LINKS];
+    let mut counts = [0; COUNTS];
     opens(
         &mut terms,
         &mut stocks,
         &mut handles,
         &mut lengths,
         &mut links,
+        &mut counts,
         rounds,
     )
 }

@@ -1,60 +1,21 @@
 // The forecast behind a script (paper 02, S-14, "a figure for leases"): the script is carried out, its answers are dropped, and
 // one line tells of how many picks the private side is then sure in the next ticks.
-use grammar::Audience;
+use counts::COUNTS;
 use grammar::TEXT_LIMIT;
 use order::LINKS;
-use script::Progress;
 use tables::Control;
 use tables::STOCKS;
 use tables::STORE;
 use tables::TERMS;
 use tables::UNOPENED;
 ghost use mathlib.Core.List.{List};
-ghost use Prim.Native.Nat.{ℕ, _≤_};
-ghost use lib.ListN.{length};
+ghost use Prim.Native.Nat.{ℕ};
 ghost use Rattle.grammar.specs.Forecast.{forecast};
-ghost use Rattle.printer.specs.Printed.{lineRoom, LineWritten};
+ghost use Rattle.printer.specs.Printed.{LineWritten};
 ghost use Rattle.tables.specs.Tables.{tables};
 ghost use Rattle.tables.specs.Meaning.{coreOf};
 ghost use Rattle.tables.specs.Invariant.{Valid};
-ghost use Rattle.script.specs.Pieces.{Start};
-ghost use Rattle.forecast.specs.Told.{CarriedOut, Told};
-
-// Carries a script out behind its start. Each piece writes its answers over those before.
-fn carry_out(
-    text: &[u8],
-    out: &mut [u8],
-    first: Progress,
-    terms: &mut [u32; TERMS],
-    stocks: &mut [u32; STOCKS],
-    handles: &mut [u64; STORE],
-    lengths: &mut [u16; STORE],
-    links: &mut [u32; LINKS],
-) -> Control
-    requires { ⌜ Start (now text) (now out) first × (lineRoom ≤ length (now out)) ⌝ }
-    ensures { λ r. ⌜ CarriedOut (now (text .entry)) r
-        (tables (now (terms .exit)) (now (stocks .exit)) (now (handles .exit)) (now (lengths .exit)) (now (links .exit))) ⌝ }
-{
-    let mut control = first.control;
-    let mut at = first.next;
-    while at < text.len() {
-        let piece = script::piece(
-            Audience::Caller,
-            text,
-            at,
-            out,
-            control,
-            terms,
-            stocks,
-            handles,
-            lengths,
-            links,
-        );
-        control = piece.control;
-        at = piece.next;
-    }
-    control
-}
+ghost use Rattle.forecast.specs.Told.{Told};
 
 // Writes the line of a core.
 fn print_line(
@@ -64,9 +25,9 @@ fn print_line(
     stocks: &[u32; STOCKS],
     ticks: u32,
 ) -> usize
-    ensures { λ r. ⌜ ((handles lengths links : List ℕ)
-        → Valid control (tables (now (terms .entry)) (now (stocks .entry)) handles lengths links)
-        → LineWritten (forecast (coreOf control (tables (now (terms .entry)) (now (stocks .entry)) handles lengths links)) ticks)
+    ensures { λ r. ⌜ ((handles lengths links counts : List ℕ)
+        → Valid control (tables (now (terms .entry)) (now (stocks .entry)) handles lengths links counts)
+        → LineWritten (forecast (coreOf control (tables (now (terms .entry)) (now (stocks .entry)) handles lengths links counts)) ticks)
         (now (out .entry)) 0 (now (out .exit)) r) ⌝ }
 {
     if !control.opened {
@@ -87,19 +48,21 @@ pub fn forecast(
     handles: &mut [u64; STORE],
     lengths: &mut [u16; STORE],
     links: &mut [u32; LINKS],
+    counts: &mut [u64; COUNTS],
 ) -> usize
     ensures { λ r. ⌜ Told (now (text .entry)) ticks (now (out .entry))
-        (tables (now (terms .entry)) (now (stocks .entry)) (now (handles .entry)) (now (lengths .entry)) (now (links .entry)))
+        (tables (now (terms .entry)) (now (stocks .entry)) (now (handles .entry)) (now (lengths .entry)) (now (links .entry))
+        (now (counts .entry)))
         (now (out .exit)) r
-        (tables (now (terms .exit)) (now (stocks .exit)) (now (handles .exit)) (now (lengths .exit)) (now (links .exit))) ⌝ }
+        (tables (now (terms .exit)) (now (stocks .exit)) (now (handles .exit)) (now (lengths .exit)) (now (links .exit))
+        (now (counts .exit))) ⌝ }
 {
     if !printer::has_room(out.len(), 0) {
         return 0;
     }
-    let first = script::start(text, out);
+    let carried = carried::carry_out(text, out, terms, stocks, handles, lengths, links, counts);
     if text.len() > TEXT_LIMIT {
-        return first.written;
+        return carried.written;
     }
-    let control = carry_out(text, out, first, terms, stocks, handles, lengths, links);
-    print_line(out, control, terms, stocks, ticks)
+    print_line(out, carried.control, terms, stocks, ticks)
 }

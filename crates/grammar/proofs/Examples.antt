@@ -21,7 +21,7 @@ use Rattle.grammar.specs.Grammar.{sizedIn, parsedByIn, parsedIn}
 use Rattle.grammar.proofs.AllForms.{forms}
 use Rattle.grammar.proofs.HandleEditions.{handle-editions}
 use Rattle.grammar.proofs.TenantPapers.{tenant-on-paper}
-use Rattle.grammar.specs.Printout.{printed, answered, shown, printedFromIn, coreFromIn, printoutIn}
+use Rattle.grammar.specs.Printout.{printed, answered, shown, printedFromIn, leftFromIn, printoutIn}
 use Rattle.grammar.specs.Sentences.{outcomeText, drawnText, reasonText, sentence}
 use Rattle.grammar.specs.TenantPaper.{TenantOnPaper}
 use Rattle.grammar.specs.HandleEditions.{longer, longerFrom}
@@ -34,7 +34,7 @@ use Rattle.grammar.specs.Examples.{FairPrintouts, call, silence, CallAnd
 
 unfoldable pub printing : Type 0
 unfolding everything textLimit numberLimit handleLimit isDigit leading behind isNumeral valueFrom digits decimal filled matched
-    limitsIn numbersFit forms sizedIn parsedByIn parsedIn printed answered shown printedFromIn coreFromIn printoutIn
+    limitsIn numbersFit forms sizedIn parsedByIn parsedIn printed answered shown printedFromIn leftFromIn printoutIn
 printing = Unit {0}
 
 -- and what reads a text beside its printout

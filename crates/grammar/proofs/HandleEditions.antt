@@ -11,6 +11,7 @@ use lib.Dec.{leb, ltb}
 use lib.ListN.{length}
 use borrow.Author.Tests.{ne-eqb, ltb-true, ltb-false, le-leb, lt-leb}
 use Rattle.definitions.specs.Sizes.{numberLimit}
+use Rattle.definitions.specs.Counts.{wholeNew}
 use Rattle.definitions.specs.State.{Core, unopened}
 use Rattle.definitions.specs.declared.Answer.the-variants.{Refused}
 use Rattle.definitions.proofs.Laws.Tests.{true-false, eqb-cases, or-false}
@@ -21,11 +22,11 @@ use Rattle.grammar.specs.declared.Audience.the-variants.{Caller}
 use Rattle.grammar.specs.Bytes.{lineFeed, textLimit}
 use Rattle.grammar.specs.Templates.{limitsIn, numbersFit, matched}
 use Rattle.grammar.specs.Grammar.{Rule, nth, arrival, rules, sizedIn, orElseIn, parsedByIn, parsedIn}
-use Rattle.grammar.specs.Printout.{printed, answered, shown, printedFromIn, coreFromIn, printoutIn}
+use Rattle.grammar.specs.Printout.{printed, answered, shown, printedFromIn, wholeBy, leftFromIn, printoutIn}
 use Rattle.grammar.specs.HandleEditions.{handleAbove, longer, longerFrom, HandleEditions}
 use Rattle.grammar.proofs.AllForms.{forms}
 use Rattle.grammar.proofs.RoundTrip.{rules-separate, fitting-read}
-use Rattle.grammar.proofs.Lines.{joins, closes, line-closed, core-joins, core-closes, core-closed}
+use Rattle.grammar.proofs.Lines.{joins, closes, line-closed, left-joins, left-closes, left-closed}
 
 -- the limits of an arrival's numbers
 abbrev arrivalLimits : ℕ → List ℕ
@@ -152,50 +153,53 @@ longer-joins : (limit : ℕ) (line : List ℕ) (b : ℕ) (text : List ℕ) → b
 unfolding longerFrom
 longer-joins limit line b text other = rw (ne-eqb b lineFeed other, longerFrom)
 
--- two editions print the same of what is left of a text, and leave the same core
+-- two editions leave the same of what is left of a text
+module _ (older newer : ℕ) (up : older ≤ newer) {A : Type 0} (by : A → Line → A) where
+  left-same : (a : A) (line text : List ℕ) → longerFrom older line text ≡ false
+      → leftFromIn older by a line text ≡ leftFromIn newer by a line text
+  unfolding leftFromIn
+  left-same a line [] short = refl
+  left-same a line (b ∷ text) short =
+      eqb-cases (λ t. leftFromIn older by a line (b ∷ text) ≡ leftFromIn newer by a line (b ∷ text)) b lineFeed
+      (λ e. let s = longer-ends older line text (rw e at short) in
+      rw e
+      (left-closes older by a line text
+      ∙ ap (λ (l : Line). leftFromIn older by (by a l) [] text) (same-line older newer line up (s .0))
+      ∙ left-same (by a (parsedIn newer line)) [] text (s .1)
+      ∙ sym (left-closes newer by a line text)))
+      (λ other. left-joins older by a line (b ∷ []) text (other, tt)
+      ∙ left-same a (line ++ (b ∷ [])) text (sym (longer-joins older line b text other) ∙ short)
+      ∙ sym (left-joins newer by a line (b ∷ []) text (other, tt)))
+
+-- and print the same of it
 module _ (older newer : ℕ) (to : Audience) where
   abbrev Same : Core → List ℕ → List ℕ → Type 0
-  Same core line text =
-      (printedFromIn older to core line text ≡ printedFromIn newer to core line text)
-      × (coreFromIn older core line text ≡ coreFromIn newer core line text)
+  Same core line text = printedFromIn older to core line text ≡ printedFromIn newer to core line text
 
   same-closes : (core : Core) (line text : List ℕ) → parsedIn older line ≡ parsedIn newer line
       → Same (answered core (parsedIn newer line) .core) [] text
       → Same core line (lineFeed ∷ text)
-  same-closes core line text read rest = (
-    closes older to core line text
-        ∙ ap (λ (l : Line). shown to core l ++ printedFromIn older to (answered core l .core) [] text) read
-        ∙ ap (λ (out : List ℕ). shown to core (parsedIn newer line) ++ out) (rest .0)
-        ∙ sym (closes newer to core line text),
-    core-closes older core line text
-        ∙ ap (λ (l : Line). coreFromIn older (answered core l .core) [] text) read
-        ∙ rest .1
-        ∙ sym (core-closes newer core line text),
-  )
-
-  same-joins : (core : Core) (line : List ℕ) (b : ℕ) (text : List ℕ) → b ≢ lineFeed → Same core (line ++ (b ∷ [])) text
-      → Same core line (b ∷ text)
-  same-joins core line b text other rest = (
-    joins older to core line b text other ∙ rest .0 ∙ sym (joins newer to core line b text other),
-    core-joins older core line (b ∷ []) text (other, tt)
-        ∙ rest .1
-        ∙ sym (core-joins newer core line (b ∷ []) text (other, tt)),
-  )
+  same-closes core line text read rest =
+      closes older to core line text
+      ∙ ap (λ (l : Line). shown to core l ++ printedFromIn older to (answered core l .core) [] text) read
+      ∙ ap (λ (out : List ℕ). shown to core (parsedIn newer line) ++ out) rest
+      ∙ sym (closes newer to core line text)
 
   same-from : older ≤ newer → (core : Core) (line text : List ℕ) → longerFrom older line text ≡ false → Same core line text
-  unfolding printedFromIn coreFromIn
-  same-from up core [] [] short = (refl, refl)
-  same-from up core (x ∷ line) [] short = (refl, refl)
+  unfolding printedFromIn
+  same-from up core [] [] short = refl
+  same-from up core (x ∷ line) [] short = refl
   same-from up core line (b ∷ text) short =
       eqb-cases (λ t. Same core line (b ∷ text)) b lineFeed
       (λ e. let s = longer-ends older line text (rw e at short) in
       rw e (same-closes core line text (same-line older newer line up (s .0)) (same-from up _ [] text (s .1))))
-      (λ other. same-joins core line b text other
-      (same-from up core (line ++ (b ∷ [])) text (sym (longer-joins older line b text other) ∙ short)))
+      (λ other. joins older to core line b text other
+      ∙ same-from up core (line ++ (b ∷ [])) text (sym (longer-joins older line b text other) ∙ short)
+      ∙ sym (joins newer to core line b text other))
 
   same-printout : older ≤ newer → (text : List ℕ) → longerFrom older [] text ≡ false → printoutIn older to text ≡ printoutIn newer to text
   unfolding printoutIn
-  same-printout up text short = go (ltb textLimit (length text)) (same-from up unopened [] text short .0)
+  same-printout up text short = go (ltb textLimit (length text)) (same-from up unopened [] text short)
     where
       go : (long : Bool) {one other : List ℕ} → one ≡ other
           → _≡_ {A = List ℕ} (elim long [ true ↦ printed (Refused 18) | false ↦ one ])
@@ -204,17 +208,17 @@ module _ (older newer : ℕ) (to : Audience) where
       go false same = same
 
 pub handle-editions : HandleEditions
-unfolding answered shown
+unfolding answered shown wholeBy
 handle-editions = record {
   sameLine = λ older newer up line short. same-line older newer line up short;
   samePrintout = λ older newer up to text short. same-printout older newer to up text short;
-  sameCore = λ older newer up text short. same-from older newer Caller up unopened [] text short .1;
+  sameWhole = λ older newer up text short. left-same older newer up wholeBy wholeNew [] text short;
   longLine = long-line;
   longPrinted = λ limit core line text whole long.
       line-closed limit Caller core line text whole
       ∙ ap (λ (l : Line). shown Caller core l ++ printedFromIn limit Caller (answered core l .core) [] text)
       (long-line limit line long);
-  longPassed = λ limit core line text whole long.
-      core-closed limit core line text whole
-      ∙ ap (λ (l : Line). coreFromIn limit (answered core l .core) [] text) (long-line limit line long);
+  longPassed = λ limit w line text whole long.
+      left-closed limit wholeBy w line text whole
+      ∙ ap (λ (l : Line). leftFromIn limit wholeBy (wholeBy w l) [] text) (long-line limit line long);
 }

@@ -11,4 +11,5 @@ pub mod LinesShown
 pub mod ReadSentences
 pub mod Sheets
 pub mod TenantPapers
+pub mod CountsPrivate
 pub mod Examples

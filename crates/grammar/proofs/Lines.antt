@@ -4,14 +4,18 @@
 use Prim.Native.Nat.{ℕ}
 use mathlib.Core.Path.{_≡_, refl, sym, ap, _∙_}
 use mathlib.Core.Logic.{_≢_}
+use mathlib.Core.Bool.{Bool, true, false}
 use mathlib.Core.List.{List, [], _∷_, _++_, append-assoc, append-nil}
+use lib.Dec.{eqb}
 use borrow.Author.Tests.{ne-eqb}
 use Rattle.definitions.specs.State.{Core}
-use Rattle.grammar.specs.declared.Line.the-variants.{Refused as Unread}
+use Rattle.definitions.specs.Counts.{Whole, wholeAfter}
+use Rattle.grammar.specs.declared.Line.{Line}
+use Rattle.grammar.specs.declared.Line.the-variants.{Form, Refused as Unread}
 use Rattle.grammar.specs.declared.Audience.{Audience}
 use Rattle.grammar.specs.Bytes.{lineFeed, Unbroken}
 use Rattle.grammar.specs.Grammar.{parsedIn}
-use Rattle.grammar.specs.Printout.{answered, shown, printedFromIn, coreFromIn}
+use Rattle.grammar.specs.Printout.{answered, shown, printedFromIn, coreBy, wholeBy, leftFromIn, coreFromIn}
 
 module _ (handles : ℕ) (to : Audience) (core : Core) where
   -- a byte that is no line feed joins the line
@@ -46,27 +50,49 @@ module _ (handles : ℕ) (to : Audience) (core : Core) where
   line-open b bs whole =
       ap (printedFromIn handles to core []) (sym (append-nil (b ∷ bs))) ∙ read [] (b ∷ bs) [] whole
 
--- ---- the core behind a text
+-- ---- what a text leaves: the core behind it, or the core with its counts
 
-module _ (handles : ℕ) (core : Core) where
-  pub core-joins : (line bs text : List ℕ) → Unbroken bs → coreFromIn handles core line (bs ++ text) ≡ coreFromIn handles core (line ++ bs) text
-  unfolding coreFromIn
-  core-joins line [] text whole = ap (λ (l : List ℕ). coreFromIn handles core l text) (sym (append-nil line))
-  core-joins line (b ∷ bs) text whole =
-      rw (ne-eqb b lineFeed (whole .0), coreFromIn)
-      (core-joins (line ++ (b ∷ [])) bs text (whole .1)
-      ∙ ap (λ (l : List ℕ). coreFromIn handles core l text) (append-assoc line (b ∷ []) bs))
+module _ (handles : ℕ) {A : Type 0} (by : A → Line → A) (a : A) where
+  pub left-joins : (line bs text : List ℕ) → Unbroken bs
+      → leftFromIn handles by a line (bs ++ text) ≡ leftFromIn handles by a (line ++ bs) text
+  unfolding leftFromIn
+  left-joins line [] text whole = ap (λ (l : List ℕ). leftFromIn handles by a l text) (sym (append-nil line))
+  left-joins line (b ∷ bs) text whole =
+      rw (ne-eqb b lineFeed (whole .0), leftFromIn)
+      (left-joins (line ++ (b ∷ [])) bs text (whole .1)
+      ∙ ap (λ (l : List ℕ). leftFromIn handles by a l text) (append-assoc line (b ∷ []) bs))
 
-  pub core-closes : (line text : List ℕ)
-      → coreFromIn handles core line (lineFeed ∷ text) ≡ coreFromIn handles (answered core (parsedIn handles line) .core) [] text
-  unfolding coreFromIn
-  core-closes line text = refl
+  pub left-closes : (line text : List ℕ)
+      → leftFromIn handles by a line (lineFeed ∷ text) ≡ leftFromIn handles by (by a (parsedIn handles line)) [] text
+  unfolding leftFromIn
+  left-closes line text = refl
 
-  pub core-closed : (line text : List ℕ)
+  pub left-closed : (line text : List ℕ)
       → Unbroken line
-      → coreFromIn handles core [] (line ++ lineFeed ∷ text) ≡ coreFromIn handles (answered core (parsedIn handles line) .core) [] text
-  core-closed line text whole = core-joins [] line (lineFeed ∷ text) whole ∙ core-closes line text
+      → leftFromIn handles by a [] (line ++ lineFeed ∷ text) ≡ leftFromIn handles by (by a (parsedIn handles line)) [] text
+  left-closed line text whole = left-joins [] line (lineFeed ∷ text) whole ∙ left-closes line text
 
-  pub core-open : (bs : List ℕ) → Unbroken bs → coreFromIn handles core [] bs ≡ core
-  unfolding coreFromIn
-  core-open bs whole = ap (coreFromIn handles core []) (sym (append-nil bs)) ∙ core-joins [] bs [] whole
+  pub left-open : (bs : List ℕ) → Unbroken bs → leftFromIn handles by a [] bs ≡ a
+  unfolding leftFromIn
+  left-open bs whole = ap (leftFromIn handles by a []) (sym (append-nil bs)) ∙ left-joins [] bs [] whole
+
+-- the core goes as it goes without its counts
+pub whole-core : (handles : ℕ) (w : Whole) (line text : List ℕ)
+    → leftFromIn handles wholeBy w line text .core ≡ coreFromIn handles (w .core) line text
+unfolding leftFromIn wholeBy wholeAfter answered
+whole-core handles w line [] = refl
+whole-core handles w line (b ∷ text) =
+    go (eqb b lineFeed) (leftFromIn handles wholeBy (wholeBy w (parsedIn handles line)) [] text)
+    (leftFromIn handles wholeBy w (line ++ (b ∷ [])) text)
+    (whole-core handles (wholeBy w (parsedIn handles line)) [] text
+    ∙ ap (λ (c : Core). coreFromIn handles c [] text) (by-line (parsedIn handles line)))
+    (whole-core handles w (line ++ (b ∷ [])) text)
+  where
+    by-line : (l : Line) → wholeBy w l .core ≡ coreBy (w .core) l
+    by-line (Form call) = refl
+    by-line (Unread n) = refl
+
+    go : (fed : Bool) (x y : Whole) {p q : Core} → x .core ≡ p → y .core ≡ q
+        → (elim fed as (λ t. Whole) [ true ↦ x | false ↦ y ]) .core ≡ elim fed [ true ↦ p | false ↦ q ]
+    go true x y e f = e
+    go false x y e f = f

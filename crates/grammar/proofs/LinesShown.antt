@@ -24,7 +24,7 @@ unfolding answered heard after
 line-heard h (Form call) = refl
 line-heard h (Unread n) = refl
 
-unbroken-append : (line : List ℕ) (b : ℕ) → Unbroken line → b ≢ lineFeed → Unbroken (line ++ (b ∷ []))
+pub unbroken-append : (line : List ℕ) (b : ℕ) → Unbroken line → b ≢ lineFeed → Unbroken (line ++ (b ∷ []))
 unbroken-append [] b whole other = (other, tt)
 unbroken-append (x ∷ line) b whole other = (whole .0, unbroken-append line b (whole .1) other)
 

@@ -8,7 +8,8 @@ use mathlib.Core.Bool.{Bool, true, false, _||_}
 use mathlib.Core.List.{List, [], _∷_, _++_}
 use mathlib.Core.Option.{Option, none, some}
 use lib.Dec.{eqb, ltb}
-use Rattle.definitions.specs.State.{Core, unopened}
+use Rattle.definitions.specs.State.{Core}
+use Rattle.definitions.specs.Counts.{Whole, wholeNew}
 use Rattle.definitions.specs.declared.Answer.the-variants.{Refused}
 use Rattle.grammar.specs.declared.Line.the-variants.{Refused as Unread}
 use Rattle.grammar.specs.declared.Audience.{Audience}
@@ -16,7 +17,7 @@ use Rattle.grammar.specs.declared.Audience.the-variants.{Caller}
 use Rattle.grammar.specs.Bytes.{lineFeed, Unbroken}
 use Rattle.grammar.specs.Templates.{matched}
 use Rattle.grammar.specs.Grammar.{nth, arrival, parsedIn}
-use Rattle.grammar.specs.Printout.{printed, printedFromIn, coreFromIn, printoutIn}
+use Rattle.grammar.specs.Printout.{printed, printedFromIn, wholeBy, leftFromIn, printoutIn}
 
 -- whether the handle among the numbers of an arrival is above a limit
 abbrev pub handleAbove : ℕ → Option (List ℕ) → Bool
@@ -43,15 +44,15 @@ pub record HandleEditions : Type 0 where
   -- a text without one prints the same, for whomever
   pub samePrintout : (older newer : ℕ) → older ≤ newer → (to : Audience) (text : List ℕ) → longerFrom older [] text ≡ false
       → printoutIn older to text ≡ printoutIn newer to text
-  -- and leaves the same core
-  pub sameCore : (older newer : ℕ) → older ≤ newer → (text : List ℕ) → longerFrom older [] text ≡ false
-      → coreFromIn older unopened [] text ≡ coreFromIn newer unopened [] text
+  -- and leaves the same core and counts
+  pub sameWhole : (older newer : ℕ) → older ≤ newer → (text : List ℕ) → longerFrom older [] text ≡ false
+      → leftFromIn older wholeBy wholeNew [] text ≡ leftFromIn newer wholeBy wholeNew [] text
   -- a line with a longer handle is 17
   pub longLine : (limit : ℕ) (line : List ℕ) → longer limit line ≡ true → parsedIn limit line ≡ Unread 17
   -- So where such a line, closed by its line feed, comes up in what is left of a text, 17 is printed for the caller, and the text goes
-  -- on with the core as it was.
+  -- on with core and counts as they were.
   pub longPrinted : (limit : ℕ) (core : Core) (line text : List ℕ) → Unbroken line → longer limit line ≡ true
       → printedFromIn limit Caller core [] (line ++ lineFeed ∷ text)
       ≡ printed (Refused 17) ++ printedFromIn limit Caller core [] text
-  pub longPassed : (limit : ℕ) (core : Core) (line text : List ℕ) → Unbroken line → longer limit line ≡ true
-      → coreFromIn limit core [] (line ++ lineFeed ∷ text) ≡ coreFromIn limit core [] text
+  pub longPassed : (limit : ℕ) (w : Whole) (line text : List ℕ) → Unbroken line → longer limit line ≡ true
+      → leftFromIn limit wholeBy w [] (line ++ lineFeed ∷ text) ≡ leftFromIn limit wholeBy w [] text

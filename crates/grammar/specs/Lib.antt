@@ -15,4 +15,5 @@ pub mod SentencesApart
 pub mod FairSheet
 pub mod Sheet
 pub mod TenantPaper
+pub mod CountLines
 pub mod Examples

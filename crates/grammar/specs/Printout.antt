@@ -10,6 +10,7 @@ use Rattle.definitions.specs.Sizes.{handleLimit}
 use Rattle.definitions.specs.State.{Core, unopened}
 use Rattle.definitions.specs.Checks.{Result, refused}
 use Rattle.definitions.specs.Core.{step}
+use Rattle.definitions.specs.Counts.{Whole, wholeAfter}
 use Rattle.definitions.specs.Sameness.{isTick}
 use Rattle.definitions.specs.Notes.{operatorNote, tenantNote}
 use Rattle.grammar.specs.declared.Line.{Line}
@@ -55,15 +56,26 @@ module _ (handles : ℕ) (to : Audience) where
   unfoldable pub printoutIn : List ℕ → List ℕ
   printoutIn text = elim (ltb textLimit (length text)) [ true ↦ printed (Refused 18) | false ↦ printedFromIn unopened [] text ]
 
-module _ (handles : ℕ) where
-  -- The core behind what is left of a text, likewise. Bytes after the last line feed leave it as it was.
-  unfoldable pub coreFromIn : Core → List ℕ → List ℕ → Core
-  coreFromIn core line [] = core
-  coreFromIn core line (b ∷ text) =
+-- what a line leaves of the core, and of the core with its counts
+abbrev pub coreBy : Core → Line → Core
+coreBy core line = answered core line .core
+
+unfoldable pub wholeBy : Whole → Line → Whole
+wholeBy w (Form call) = wholeAfter w (eventOf call)
+wholeBy w (Unread n) = w
+
+module _ (handles : ℕ) {A : Type 0} (by : A → Line → A) where
+  -- What the lines of what is left of a text leave, likewise. Bytes after the last line feed leave it as it was.
+  unfoldable pub leftFromIn : A → List ℕ → List ℕ → A
+  leftFromIn a line [] = a
+  leftFromIn a line (b ∷ text) =
       elim (eqb b lineFeed) [
-        | true ↦ coreFromIn (answered core (parsedIn handles line) .core) [] text
-        | false ↦ coreFromIn core (line ++ (b ∷ [])) text
+        | true ↦ leftFromIn (by a (parsedIn handles line)) [] text
+        | false ↦ leftFromIn a (line ++ (b ∷ [])) text
       ]
+
+abbrev pub coreFromIn : ℕ → Core → List ℕ → List ℕ → Core
+coreFromIn handles = leftFromIn handles coreBy
 
 -- the present edition
 abbrev pub printedFrom : Audience → Core → List ℕ → List ℕ → List ℕ
@@ -71,6 +83,9 @@ printedFrom to core line text = printedFromIn handleLimit to core line text
 
 abbrev pub coreFrom : Core → List ℕ → List ℕ → Core
 coreFrom core line text = coreFromIn handleLimit core line text
+
+abbrev pub wholeFrom : Whole → List ℕ → List ℕ → Whole
+wholeFrom w line text = leftFromIn handleLimit wholeBy w line text
 
 abbrev pub printoutFor : Audience → List ℕ → List ℕ
 printoutFor to text = printoutIn handleLimit to text

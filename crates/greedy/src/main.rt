@@ -1,5 +1,6 @@
 // Makes long runs in which one client offers packets until it is refused, and prints how many of its offerings gave it exactly
 // what it bought. The first argument is the seed, the second how many blocks.
+use counts::COUNTS;
 use definitions::Answer;
 use definitions::INDIFFERENT;
 use definitions::SHARES;
@@ -209,8 +210,8 @@ fn turn(counts: Counts, answer: Answer, c: u32, d: u32, level: u32) -> Counts
 
 // The client's level, 0 on an unopened core.
 fn level_of(control: Control, terms: &[u32; TERMS]) -> u32
-    ensures { λ r. ⌜ ((stocks handles lengths links : List ℕ)
-        → r ≡ levelIn (coreOf control (tables (now (terms .entry)) stocks handles lengths links))) ⌝ }
+    ensures { λ r. ⌜ ((stocks handles lengths links counts : List ℕ)
+        → r ≡ levelIn (coreOf control (tables (now (terms .entry)) stocks handles lengths links counts))) ⌝ }
 {
     if !control.opened {
         return 0;
@@ -245,16 +246,19 @@ fn call_once(
     handles: &mut [u64; STORE],
     lengths: &mut [u16; STORE],
     links: &mut [u32; LINKS],
+    counts: &mut [u64; COUNTS],
 ) -> GreedyProgress
-    requires { ⌜ Valid (at .progress .control) (tables (now terms) (now stocks) (now handles) (now lengths) (now links)) ⌝ }
+    requires { ⌜ Valid (at .progress .control) (tables (now terms) (now stocks) (now handles) (now lengths) (now links) (now counts)) ⌝ }
     ensures { λ r. ⌜ Goes 1 at
-        (tables (now (terms .entry)) (now (stocks .entry)) (now (handles .entry)) (now (lengths .entry)) (now (links .entry))) r
-        (tables (now (terms .exit)) (now (stocks .exit)) (now (handles .exit)) (now (lengths .exit)) (now (links .exit))) ⌝ }
+        (tables (now (terms .entry)) (now (stocks .entry)) (now (handles .entry)) (now (lengths .entry)) (now (links .entry))
+        (now (counts .entry))) r
+        (tables (now (terms .exit)) (now (stocks .exit)) (now (handles .exit)) (now (lengths .exit)) (now (links .exit))
+        (now (counts .exit))) ⌝ }
 {
     let progress = at.progress;
-    let counts = at.counts;
+    let sofar = at.counts;
     let draws = runs::draw(progress.maker);
-    let call = call_in(counts.phase, draws.a, draws.b, draws.c, draws.d);
+    let call = call_in(sofar.phase, draws.a, draws.b, draws.c, draws.d);
     let maker = draws.maker;
     let taken = runs::take(
         progress,
@@ -263,6 +267,7 @@ fn call_once(
         handles,
         lengths,
         links,
+        counts,
         maker,
         call,
     );
@@ -271,7 +276,7 @@ fn call_once(
     let level = level_of(next.control, terms);
     GreedyProgress {
         progress: next,
-        counts: turn(counts, answer, draws.c, draws.d, level),
+        counts: turn(sofar, answer, draws.c, draws.d, level),
     }
 }
 
@@ -283,17 +288,20 @@ fn calls(
     handles: &mut [u64; STORE],
     lengths: &mut [u16; STORE],
     links: &mut [u32; LINKS],
+    counts: &mut [u64; COUNTS],
     count: u32,
 ) -> GreedyProgress
-    requires { ⌜ Valid (progress .progress .control) (tables (now terms) (now stocks) (now handles) (now lengths) (now links)) ⌝ }
+    requires { ⌜ Valid (progress .progress .control) (tables (now terms) (now stocks) (now handles) (now lengths) (now links) (now counts)) ⌝ }
     ensures { λ r. ⌜ Goes count progress
-        (tables (now (terms .entry)) (now (stocks .entry)) (now (handles .entry)) (now (lengths .entry)) (now (links .entry))) r
-        (tables (now (terms .exit)) (now (stocks .exit)) (now (handles .exit)) (now (lengths .exit)) (now (links .exit))) ⌝ }
+        (tables (now (terms .entry)) (now (stocks .entry)) (now (handles .entry)) (now (lengths .entry)) (now (links .entry))
+        (now (counts .entry))) r
+        (tables (now (terms .exit)) (now (stocks .exit)) (now (handles .exit)) (now (lengths .exit)) (now (links .exit))
+        (now (counts .exit))) ⌝ }
 {
     let mut at = progress;
     let mut made: u32 = 0;
     while made < count {
-        at = call_once(at, terms, stocks, handles, lengths, links);
+        at = call_once(at, terms, stocks, handles, lengths, links, counts);
         made += 1;
     }
     at
@@ -326,11 +334,12 @@ fn blocks(
     handles: &mut [u64; STORE],
     lengths: &mut [u16; STORE],
     links: &mut [u32; LINKS],
+    counts: &mut [u64; COUNTS],
 ) {
     let mut at = begin(seed);
     let mut done: u32 = 0;
     while done < count {
-        at = calls(at, terms, stocks, handles, lengths, links, BLOCK);
+        at = calls(at, terms, stocks, handles, lengths, links, counts, BLOCK);
         done += 1;
         if !tell(
             seed,
@@ -351,6 +360,7 @@ fn run(seed: u32, count: u32) {
     let mut handles: [u64; STORE] = [0; STORE];
     let mut lengths: [u16; STORE] = [0; STORE];
     let mut links: [u32; LINKS] = [0; LINKS];
+    let mut counts: [u64; COUNTS] = [0; COUNTS];
     blocks(
         seed,
         count,
@@ -359,6 +369,7 @@ fn run(seed: u32, count: u32) {
         &mut handles,
         &mut lengths,
         &mut links,
+        &mut counts,
     );
 }
 

@@ -46,9 +46,9 @@ fn demand(word: u64, terms: &[u32; TERMS], stocks: &[u32; STOCKS], ticks: u32) -
 // Of how many picks the private side is sure in the next ticks: 0 where the demand passes them, where no private client is
 // active, and of an unopened core.
 pub fn sure(control: Control, terms: &[u32; TERMS], stocks: &[u32; STOCKS], ticks: u32) -> u32
-    ensures { λ r. ⌜ ((handles lengths links : List ℕ)
-        → Valid control (tables (now (terms .entry)) (now (stocks .entry)) handles lengths links)
-        → r ≡ sure (coreOf control (tables (now (terms .entry)) (now (stocks .entry)) handles lengths links)) ticks) ⌝ }
+    ensures { λ r. ⌜ ((handles lengths links counts : List ℕ)
+        → Valid control (tables (now (terms .entry)) (now (stocks .entry)) handles lengths links counts)
+        → r ≡ sure (coreOf control (tables (now (terms .entry)) (now (stocks .entry)) handles lengths links counts)) ticks) ⌝ }
 {
     if !control.opened {
         return 0;

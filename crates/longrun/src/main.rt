@@ -1,5 +1,6 @@
 // Makes long runs of calls and prints the check of their answers: the first argument is the seed, the second how many blocks.
 // What is called and what is checked is decided in `runs`.
+use counts::COUNTS;
 use libc::STDERR_FILENO;
 use order::LINKS;
 use parser::Word;
@@ -30,11 +31,12 @@ fn blocks(
     handles: &mut [u64; STORE],
     lengths: &mut [u16; STORE],
     links: &mut [u32; LINKS],
+    counts: &mut [u64; COUNTS],
 ) {
     let mut at = runs::begin(seed);
     let mut done: u32 = 0;
     while done < count {
-        at = runs::calls(at, terms, stocks, handles, lengths, links, BLOCK);
+        at = runs::calls(at, terms, stocks, handles, lengths, links, counts, BLOCK);
         done += 1;
         if !tell(seed, done, at.check) {
             return;
@@ -49,6 +51,7 @@ fn run(seed: u32, count: u32) {
     let mut handles: [u64; STORE] = [0; STORE];
     let mut lengths: [u16; STORE] = [0; STORE];
     let mut links: [u32; LINKS] = [0; LINKS];
+    let mut counts: [u64; COUNTS] = [0; COUNTS];
     blocks(
         seed,
         count,
@@ -57,6 +60,7 @@ fn run(seed: u32, count: u32) {
         &mut handles,
         &mut lengths,
         &mut links,
+        &mut counts,
     );
 }
 

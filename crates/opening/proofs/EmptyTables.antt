@@ -7,12 +7,14 @@ use mathlib.Core.List.{List, [], map}
 use lib.Dec.{eqb, ltb}
 use lib.ListN.{getD, replicate, length-replicate}
 use Rattle.definitions.specs.Sizes.{ids, places}
+use Rattle.definitions.specs.Counts.{Count, column}
 use Rattle.definitions.specs.Client.{absent, nobody}
 use Rattle.definitions.specs.Stock.{bare}
 use Rattle.definitions.specs.State.{fresh}
 use Rattle.definitions.specs.Checks.{activeRate, rates}
 use Rattle.definitions.proofs.Laws.Tests.{true-false}
 use Rattle.definitions.proofs.Laws.Sums.{sumBelow-zero}
+use Rattle.counts.specs.CountTable.{countColumns, countEntry, countIn}
 use Rattle.marks.proofs.Bits.{marked-none}
 use Rattle.order.specs.Order.{sentinel, linkCount}
 use Rattle.order.specs.Owner.{owner, placesOf}
@@ -46,7 +48,7 @@ zeros n = replicate n 0
 abbrev pub emptyTables : Tables
 emptyTables =
     tables (zeros (termColumns * ids)) (zeros (stockColumns * ids)) (zeros (ids * places)) (zeros (ids * places))
-    (replicate linkCount sentinel)
+    (replicate linkCount sentinel) (zeros (countColumns * ids))
 
 getD-zeros : (n i : ℕ) → getD (zeros n) i 0 ≡ 0
 getD-zeros zero zero = refl
@@ -78,6 +80,11 @@ stocks-empty = fun-ext (λ id. go id (ltb id ids))
     go : (id : ℕ) (b : Bool) → cond b (stockAt emptyTables id) bare ≡ bare
     go id true = stock-empty id
     go id false = refl
+
+-- every sheet is all zeros
+pub count-zero : (id : ℕ) (count : Count) → countIn (emptyTables .counts) id count ≡ 0
+unfolding countIn
+count-zero id count = getD-zeros (countColumns * ids) (countEntry id (column count))
 
 order-empty : orderOf emptyTables ≡ []
 unfolding orderOf
@@ -129,6 +136,7 @@ module _ (threshold discipline seed : ℕ) where
       stocks = length-replicate (stockColumns * ids) 0;
       handles = length-replicate (ids * places) 0;
       lengths = length-replicate (ids * places) 0;
+      counts = length-replicate (countColumns * ids) 0;
     };
     heads = λ id l. rw (stock-zero headColumn id) places-positive;
     waits = λ id. marked-none id ∙ waits-empty id;

@@ -1,4 +1,5 @@
 // Where a core begins: unopened, and opened with empty tables.
+use counts::COUNTS;
 use definitions::SHARES;
 use definitions::WEIGHTED_DRAW;
 use generator::Generator;
@@ -78,14 +79,17 @@ pub fn open(
     handles: &mut [u64; STORE],
     lengths: &mut [u16; STORE],
     links: &mut [u32; LINKS],
+    counts: &mut [u64; COUNTS],
     threshold: u32,
     discipline: u32,
     seed: u32,
 ) -> Answered
-    requires { ⌜ Valid control (tables (now terms) (now stocks) (now handles) (now lengths) (now links)) ⌝ }
+    requires { ⌜ Valid control (tables (now terms) (now stocks) (now handles) (now lengths) (now links) (now counts)) ⌝ }
     ensures { λ r. ⌜ Promised (Open threshold discipline seed) control
-        (tables (now (terms .entry)) (now (stocks .entry)) (now (handles .entry)) (now (lengths .entry)) (now (links .entry))) r
-        (tables (now (terms .exit)) (now (stocks .exit)) (now (handles .exit)) (now (lengths .exit)) (now (links .exit))) ⌝ }
+        (tables (now (terms .entry)) (now (stocks .entry)) (now (handles .entry)) (now (lengths .entry)) (now (links .entry))
+        (now (counts .entry))) r
+        (tables (now (terms .exit)) (now (stocks .exit)) (now (handles .exit)) (now (lengths .exit)) (now (links .exit))
+        (now (counts .exit))) ⌝ }
 {
     let number = open_number(threshold, discipline, seed);
     if number != 0 {
@@ -96,5 +100,6 @@ pub fn open(
     *handles = [0; STORE];
     *lengths = [0; STORE];
     *links = [END; LINKS];
+    *counts = [0; COUNTS];
     tables::accepted(control_of(true, threshold, discipline, seed))
 }

@@ -9,6 +9,7 @@ use lib.ListN.{length, length-append}
 use Rattle.definitions.specs.declared.Outcome.{Outcome}
 use Rattle.definitions.specs.declared.Outcome.the-variants.{Real, Dummy, Idle, None}
 use Rattle.definitions.specs.declared.Answer.the-variants.{Slot}
+use Rattle.definitions.specs.declared.CountSheet.{CountSheet}
 use Rattle.definitions.specs.Answers.{values}
 use Rattle.grammar.specs.Numerals.{decimal}
 use Rattle.grammar.specs.Templates.{isGap, filled}
@@ -16,6 +17,7 @@ use Rattle.grammar.specs.Printout.{printed}
 use Rattle.grammar.proofs.Decimals.{decimal-length}
 use Rattle.grammar.proofs.ReadBack.{filled-byte, filled-gap}
 use Rattle.grammar.specs.Sentences.{outcomeText, drawnText}
+use Rattle.grammar.specs.CountLines.{countLine}
 use Rattle.printer.specs.Printed.{outcomeRoom, reasonRoom, lineRoom}
 
 pub ten-digits : (n : ℕ) → n < 2 ^ 32 → length (decimal n) ≤ 10
@@ -82,3 +84,30 @@ pub drawn-room : (target sum : ℕ) → target < 2 ^ 32 → sum < 2 ^ 64 → (at
 unfolding drawnText
 drawn-room target sum low wide at room =
     filled-room _ _ (omega (arith, ten-digits target low, twenty-digits sum wide)) at room
+
+-- six counts of 64 bits
+pub record NarrowCounts (id : ℕ) (c : CountSheet) : Type 0 where
+  pub ids : id < 2 ^ 32
+  pub accepted : c .accepted < 2 ^ 64
+  pub sent : c .sent < 2 ^ 64
+  pub full : c .full < 2 ^ 64
+  pub drained : c .drained < 2 ^ 64
+  pub emptied : c .emptied < 2 ^ 64
+  pub dummies : c .dummies < 2 ^ 64
+
+-- and the line of an id and its counts
+pub counts-room : (id : ℕ) (c : CountSheet) → NarrowCounts id c → (at : ℕ) {size : ℕ} → at + lineRoom ≤ size
+    → at + length (countLine id c) ≤ size
+unfolding countLine
+counts-room id c narrow at room =
+    filled-room _ _
+    (omega (
+      arith,
+      ten-digits id (narrow .ids),
+      twenty-digits _ (narrow .accepted),
+      twenty-digits _ (narrow .sent),
+      twenty-digits _ (narrow .full),
+      twenty-digits _ (narrow .drained),
+      twenty-digits _ (narrow .emptied),
+      twenty-digits _ (narrow .dummies),
+    )) at room

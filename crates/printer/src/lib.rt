@@ -1,6 +1,7 @@
-// Prints answers (paper 01, "Script and printout"), the sentences of a sheet, the figure of a forecast and fair rates: each as a line of
-// text, into bytes that are lent, from a place on.
+// Prints answers (paper 01, "Script and printout"), the sentences of a sheet, the figure of a forecast, fair rates and counts: each as a
+// line of text, into bytes that are lent, from a place on.
 use definitions::Answer;
+use definitions::CountSheet;
 use definitions::Note;
 use definitions::Outcome;
 use definitions::Packet;
@@ -17,6 +18,7 @@ ghost use Rattle.grammar.specs.Printout.{printed};
 ghost use Rattle.grammar.specs.Sentences.{outcomeText, drawnText, reasonText, sentence};
 ghost use Rattle.grammar.specs.Forecast.{sureLine};
 ghost use Rattle.grammar.specs.FairSheet.{rateLine};
+ghost use Rattle.grammar.specs.CountLines.{countLine};
 ghost use Rattle.printer.specs.Appended.{Appended};
 ghost use Rattle.printer.specs.Printed.{outcomeRoom, reasonRoom, lineRoom, LineWritten, Printed, wordRoom, pairLine};
 
@@ -319,4 +321,23 @@ pub fn print_note(out: &mut [u8], at: usize, note: Note) -> usize
         Note::ToIndifferent => put(out, at, b"The slot went to an indifferent client.\n"),
         Note::ToAnother => put(out, at, b"The slot went to another private client.\n"),
     }
+}
+
+// Writes the line of an id and its counts, in the order in which billing names them; places and room are those of `print_refused`.
+pub fn print_counts(out: &mut [u8], at: usize, id: u32, counts: CountSheet) -> usize
+    ensures { λ r. ⌜ LineWritten (countLine id counts) (now (out .entry)) at (now (out .exit)) r × (r ≤ at + lineRoom) ⌝ }
+{
+    if !has_room(out.len(), at) {
+        return at;
+    }
+    let fields = [
+        id as u64,
+        counts.accepted,
+        counts.sent,
+        counts.full,
+        counts.drained,
+        counts.emptied,
+        counts.dummies,
+    ];
+    put_filled(out, at, b"(counts # # # # # # #)\n", &fields)
 }

@@ -134,5 +134,5 @@ module _ {p q : Progress} {t u : Tables} {calls : ℕ} (handle length : ℕ) (g 
   pub goes-overwritten : {handles lengths : List ℕ}
       → handles ≡ overwrittenUnused (u .stocks) handle (u .handles)
       → lengths ≡ overwrittenUnused (u .stocks) length (u .lengths)
-      → Goes calls p t q (tables (u .terms) (u .stocks) handles lengths (u .links))
+      → Goes calls p t q (tables (u .terms) (u .stocks) handles lengths (u .links) (u .counts))
   goes-overwritten e f = rw (e, f) goes-rewritten

@@ -39,7 +39,7 @@ overwrittenUnused stocks number table = overwrittenBelow sentinel stocks number 
 abbrev pub overwrittenTables : ℕ → ℕ → Tables → Tables
 overwrittenTables handle length t =
     tables (t .terms) (t .stocks) (overwrittenUnused (t .stocks) handle (t .handles))
-    (overwrittenUnused (t .stocks) length (t .lengths)) (t .links)
+    (overwrittenUnused (t .stocks) length (t .lengths)) (t .links) (t .counts)
 
 -- every place where no packet waits is overwritten, and the tables differ there alone
 pub record UnusedOverwritten : Type 0 where

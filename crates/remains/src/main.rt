@@ -1,6 +1,7 @@
 // Makes long runs on tables with remains of other numbers, and prints the check of their answers as `longrun` does. The
 // arguments are the seed, how many blocks, the number that is written wherever no packet waits, and the seed of an earlier
 // history on the same core, or 0 for none.
+use counts::COUNTS;
 use definitions::PLACES;
 use libc::STDERR_FILENO;
 use order::END;
@@ -97,14 +98,26 @@ fn stretch(
     handles: &mut [u64; STORE],
     lengths: &mut [u16; STORE],
     links: &mut [u32; LINKS],
+    counts: &mut [u64; COUNTS],
     number: u32,
 ) -> Progress
-    requires { ⌜ Valid (progress .control) (tables (now terms) (now stocks) (now handles) (now lengths) (now links)) ⌝ }
+    requires { ⌜ Valid (progress .control) (tables (now terms) (now stocks) (now handles) (now lengths) (now links) (now counts)) ⌝ }
     ensures { λ r. ⌜ Goes stretch progress
-        (tables (now (terms .entry)) (now (stocks .entry)) (now (handles .entry)) (now (lengths .entry)) (now (links .entry))) r
-        (tables (now (terms .exit)) (now (stocks .exit)) (now (handles .exit)) (now (lengths .exit)) (now (links .exit))) ⌝ }
+        (tables (now (terms .entry)) (now (stocks .entry)) (now (handles .entry)) (now (lengths .entry)) (now (links .entry))
+        (now (counts .entry))) r
+        (tables (now (terms .exit)) (now (stocks .exit)) (now (handles .exit)) (now (lengths .exit)) (now (links .exit))
+        (now (counts .exit))) ⌝ }
 {
-    let at = runs::calls(progress, terms, stocks, handles, lengths, links, STRETCH);
+    let at = runs::calls(
+        progress,
+        terms,
+        stocks,
+        handles,
+        lengths,
+        links,
+        counts,
+        STRETCH,
+    );
     overwrite_unused(stocks, handles, lengths, number as u64, lower_half(number));
     at
 }
@@ -117,17 +130,20 @@ fn block(
     handles: &mut [u64; STORE],
     lengths: &mut [u16; STORE],
     links: &mut [u32; LINKS],
+    counts: &mut [u64; COUNTS],
     number: u32,
 ) -> Progress
-    requires { ⌜ Valid (progress .control) (tables (now terms) (now stocks) (now handles) (now lengths) (now links)) ⌝ }
+    requires { ⌜ Valid (progress .control) (tables (now terms) (now stocks) (now handles) (now lengths) (now links) (now counts)) ⌝ }
     ensures { λ r. ⌜ Goes block progress
-        (tables (now (terms .entry)) (now (stocks .entry)) (now (handles .entry)) (now (lengths .entry)) (now (links .entry))) r
-        (tables (now (terms .exit)) (now (stocks .exit)) (now (handles .exit)) (now (lengths .exit)) (now (links .exit))) ⌝ }
+        (tables (now (terms .entry)) (now (stocks .entry)) (now (handles .entry)) (now (lengths .entry)) (now (links .entry))
+        (now (counts .entry))) r
+        (tables (now (terms .exit)) (now (stocks .exit)) (now (handles .exit)) (now (lengths .exit)) (now (links .exit))
+        (now (counts .exit))) ⌝ }
 {
     let mut at = progress;
     let mut made: u32 = 0;
     while made < STRETCHES {
-        at = stretch(at, terms, stocks, handles, lengths, links, number);
+        at = stretch(at, terms, stocks, handles, lengths, links, counts, number);
         made += 1;
     }
     at
@@ -142,15 +158,17 @@ fn start(
     handles: &mut [u64; STORE],
     lengths: &mut [u16; STORE],
     links: &mut [u32; LINKS],
+    counts: &mut [u64; COUNTS],
 ) -> Progress
     ensures { λ r. ⌜ Starts earlier seed r
-        (tables (now (terms .exit)) (now (stocks .exit)) (now (handles .exit)) (now (lengths .exit)) (now (links .exit))) ⌝ }
+        (tables (now (terms .exit)) (now (stocks .exit)) (now (handles .exit)) (now (lengths .exit)) (now (links .exit))
+        (now (counts .exit))) ⌝ }
 {
     if earlier == 0 {
         return runs::begin(seed);
     }
     let first = runs::begin(earlier);
-    let left = runs::calls(first, terms, stocks, handles, lengths, links, BLOCK);
+    let left = runs::calls(first, terms, stocks, handles, lengths, links, counts, BLOCK);
     let control = left.control;
     let mut anew = runs::begin(seed);
     anew.control = control;
@@ -174,12 +192,22 @@ fn blocks(
     handles: &mut [u64; STORE],
     lengths: &mut [u16; STORE],
     links: &mut [u32; LINKS],
+    counts: &mut [u64; COUNTS],
     number: u32,
 ) {
-    let mut at = start(earlier, seed, terms, stocks, handles, lengths, links);
+    let mut at = start(
+        earlier,
+        seed,
+        terms,
+        stocks,
+        handles,
+        lengths,
+        links,
+        counts,
+    );
     let mut done: u32 = 0;
     while done < count {
-        at = block(at, terms, stocks, handles, lengths, links, number);
+        at = block(at, terms, stocks, handles, lengths, links, counts, number);
         done += 1;
         if !tell(earlier, seed, done, at.check) {
             return;
@@ -194,6 +222,7 @@ fn run(seed: u32, count: u32, number: u32, earlier: u32) {
     let mut handles: [u64; STORE] = [number as u64; STORE];
     let mut lengths: [u16; STORE] = [lower_half(number); STORE];
     let mut links: [u32; LINKS] = [number; LINKS];
+    let mut counts: [u64; COUNTS] = [number as u64; COUNTS];
     blocks(
         earlier,
         seed,
@@ -203,6 +232,7 @@ fn run(seed: u32, count: u32, number: u32, earlier: u32) {
         &mut handles,
         &mut lengths,
         &mut links,
+        &mut counts,
         number,
     );
 }

@@ -1,4 +1,5 @@
 // Long runs: calls made from a seed, and a running check of their answers.
+use counts::COUNTS;
 use definitions::Answer;
 use definitions::INDIFFERENT;
 use definitions::Outcome;
@@ -239,13 +240,16 @@ pub fn take(
     handles: &mut [u64; STORE],
     lengths: &mut [u16; STORE],
     links: &mut [u32; LINKS],
+    counts: &mut [u64; COUNTS],
     maker: Maker,
     call: Call,
 ) -> Taken
-    requires { ⌜ Valid (progress .control) (tables (now terms) (now stocks) (now handles) (now lengths) (now links)) ⌝ }
+    requires { ⌜ Valid (progress .control) (tables (now terms) (now stocks) (now handles) (now lengths) (now links) (now counts)) ⌝ }
     ensures { λ r. ⌜ Takes call maker progress
-        (tables (now (terms .entry)) (now (stocks .entry)) (now (handles .entry)) (now (lengths .entry)) (now (links .entry))) r
-        (tables (now (terms .exit)) (now (stocks .exit)) (now (handles .exit)) (now (lengths .exit)) (now (links .exit))) ⌝ }
+        (tables (now (terms .entry)) (now (stocks .entry)) (now (handles .entry)) (now (lengths .entry)) (now (links .entry))
+        (now (counts .entry))) r
+        (tables (now (terms .exit)) (now (stocks .exit)) (now (handles .exit)) (now (lengths .exit)) (now (links .exit))
+        (now (counts .exit))) ⌝ }
 {
     let answered = script::perform(
         progress.control,
@@ -254,6 +258,7 @@ pub fn take(
         handles,
         lengths,
         links,
+        counts,
         call,
     );
     let control = answered.control;
@@ -277,11 +282,14 @@ fn call_once(
     handles: &mut [u64; STORE],
     lengths: &mut [u16; STORE],
     links: &mut [u32; LINKS],
+    counts: &mut [u64; COUNTS],
 ) -> Progress
-    requires { ⌜ Valid (progress .control) (tables (now terms) (now stocks) (now handles) (now lengths) (now links)) ⌝ }
+    requires { ⌜ Valid (progress .control) (tables (now terms) (now stocks) (now handles) (now lengths) (now links) (now counts)) ⌝ }
     ensures { λ r. ⌜ Goes 1 progress
-        (tables (now (terms .entry)) (now (stocks .entry)) (now (handles .entry)) (now (lengths .entry)) (now (links .entry))) r
-        (tables (now (terms .exit)) (now (stocks .exit)) (now (handles .exit)) (now (lengths .exit)) (now (links .exit))) ⌝ }
+        (tables (now (terms .entry)) (now (stocks .entry)) (now (handles .entry)) (now (lengths .entry)) (now (links .entry))
+        (now (counts .entry))) r
+        (tables (now (terms .exit)) (now (stocks .exit)) (now (handles .exit)) (now (lengths .exit)) (now (links .exit))
+        (now (counts .exit))) ⌝ }
 {
     let draws = draw(progress.maker);
     let quiet = progress.maker.quiet;
@@ -294,6 +302,7 @@ fn call_once(
         handles,
         lengths,
         links,
+        counts,
         maker,
         call,
     );
@@ -308,17 +317,20 @@ pub fn calls(
     handles: &mut [u64; STORE],
     lengths: &mut [u16; STORE],
     links: &mut [u32; LINKS],
+    counts: &mut [u64; COUNTS],
     count: u32,
 ) -> Progress
-    requires { ⌜ Valid (progress .control) (tables (now terms) (now stocks) (now handles) (now lengths) (now links)) ⌝ }
+    requires { ⌜ Valid (progress .control) (tables (now terms) (now stocks) (now handles) (now lengths) (now links) (now counts)) ⌝ }
     ensures { λ r. ⌜ Goes count progress
-        (tables (now (terms .entry)) (now (stocks .entry)) (now (handles .entry)) (now (lengths .entry)) (now (links .entry))) r
-        (tables (now (terms .exit)) (now (stocks .exit)) (now (handles .exit)) (now (lengths .exit)) (now (links .exit))) ⌝ }
+        (tables (now (terms .entry)) (now (stocks .entry)) (now (handles .entry)) (now (lengths .entry)) (now (links .entry))
+        (now (counts .entry))) r
+        (tables (now (terms .exit)) (now (stocks .exit)) (now (handles .exit)) (now (lengths .exit)) (now (links .exit))
+        (now (counts .exit))) ⌝ }
 {
     let mut at = progress;
     let mut made: u32 = 0;
     while made < count {
-        at = call_once(at, terms, stocks, handles, lengths, links);
+        at = call_once(at, terms, stocks, handles, lengths, links, counts);
         made += 1;
     }
     at

@@ -1,4 +1,4 @@
--- What the first line ahead prints, and behind it what is ahead then; and the core behind it. Assumes nothing.
+-- What the first line ahead prints, and behind it what is ahead then; and core and counts behind it. Assumes nothing.
 use Prim.Native.Nat.{ℕ, suc, _+_, _-_, _≤_, _<_}
 use mathlib.Core.Path.{_≡_, sym, ap, _∙_}
 use mathlib.Core.List.{List, [], _∷_, _++_, append-assoc, append-nil}
@@ -7,15 +7,16 @@ use lib.ListN.{length, getD, take, drop, length-drop, drop-of-length-le}
 use lib.Seq.{drop-cons, take-all, take-nil}
 use Rattle.definitions.specs.Sizes.{handleLimit}
 use Rattle.definitions.specs.State.{Core}
+use Rattle.definitions.specs.Counts.{Whole}
 use Rattle.grammar.specs.declared.Line.the-variants.{Refused as Unread}
 use Rattle.grammar.specs.declared.Audience.{Audience}
 use Rattle.grammar.specs.Bytes.{lineFeed, Unbroken}
 use Rattle.grammar.specs.Grammar.{parsed}
-use Rattle.grammar.specs.Printout.{answered, shown, printedFrom, printedFromIn, coreFrom, coreFromIn}
-use Rattle.grammar.proofs.Lines.{line-closed, line-open, core-closed, core-open}
+use Rattle.grammar.specs.Printout.{answered, shown, printedFrom, printedFromIn, wholeBy, leftFromIn, wholeFrom}
+use Rattle.grammar.proofs.Lines.{line-closed, line-open, left-closed, left-open}
 use Rattle.reader.specs.LineSpans.{between}
 use Rattle.reader.proofs.LinesAhead.{split-closed, between-closed}
-use Rattle.script.specs.Pieces.{ahead, coreBehind}
+use Rattle.script.specs.Pieces.{ahead, leftBehind}
 
 -- nothing is ahead behind the last byte
 pub ahead-none : (to : Audience) (core : Core) (text : List ℕ) (at : ℕ) → length text ≤ at → ahead to core text at ≡ []
@@ -23,32 +24,32 @@ unfolding printedFromIn
 ahead-none to core text at past = ap (printedFrom to core []) (drop-of-length-le text past)
 
 -- and up to the place itself no byte is passed
-pub core-here : (core : Core) (text : List ℕ) (at : ℕ) → coreBehind core text at at ≡ core
-unfolding coreFromIn
-core-here core text at = let none : at - at ≡ 0 = omega arith in ap (λ (n : ℕ). coreFrom core [] (take n (drop at text))) none
+pub left-here : (w : Whole) (text : List ℕ) (at : ℕ) → leftBehind w text at at ≡ w
+unfolding leftFromIn
+left-here w text at = let none : at - at ≡ 0 = omega arith in ap (λ (n : ℕ). wholeFrom w [] (take n (drop at text))) none
 
 -- nor behind the last byte
-pub core-past : (core : Core) (text : List ℕ) (at upto : ℕ) → length text ≤ at → coreBehind core text at upto ≡ core
-unfolding coreFromIn
-core-past core text at upto past =
-    ap (coreFrom core []) (ap (take (upto - at)) (drop-of-length-le text past) ∙ take-nil (upto - at))
+pub left-past : (w : Whole) (text : List ℕ) (at upto : ℕ) → length text ≤ at → leftBehind w text at upto ≡ w
+unfolding leftFromIn
+left-past w text at upto past =
+    ap (wholeFrom w []) (ap (take (upto - at)) (drop-of-length-le text past) ∙ take-nil (upto - at))
 
 -- where a line feed closes a line
 module _ (text : List ℕ) (at end : ℕ) (forth : at ≤ end) (inside : end < length text) (feed : getD text end 0 ≡ lineFeed) where
-  pub closed-core : (core : Core) → Unbroken (between text at end) → (upto : ℕ) → suc end ≤ upto
-      → coreBehind (answered core (parsed (between text at end)) .core) text (suc end) upto ≡ coreBehind core text at upto
-  closed-core core whole upto past =
-      sym (ap (coreFrom core []) (between-closed text at end forth inside feed upto past)
-      ∙ core-closed handleLimit core (between text at end) (between text (suc end) upto) whole)
+  pub closed-left : (w : Whole) → Unbroken (between text at end) → (upto : ℕ) → suc end ≤ upto
+      → leftBehind (wholeBy w (parsed (between text at end))) text (suc end) upto ≡ leftBehind w text at upto
+  closed-left w whole upto past =
+      sym (ap (wholeFrom w []) (between-closed text at end forth inside feed upto past)
+      ∙ left-closed handleLimit wholeBy w (between text at end) (between text (suc end) upto) whole)
 
--- bytes that no line feed closes leave the core
-pub open-core : (core : Core) (text : List ℕ) (at : ℕ) → at ≤ length text → Unbroken (drop at text)
+-- bytes that no line feed closes leave core and counts
+pub open-left : (w : Whole) (text : List ℕ) (at : ℕ) → at ≤ length text → Unbroken (drop at text)
     → (upto : ℕ) → length text ≤ upto
-    → coreBehind core text (length text) upto ≡ coreBehind core text at upto
-open-core core text at inside whole upto past =
+    → leftBehind w text (length text) upto ≡ leftBehind w text at upto
+open-left w text at inside whole upto past =
     let all = take-all (upto - at) (drop at text) (omega (arith, length-drop at text)) in
-    core-past core text (length text) upto (omega arith)
-    ∙ sym (ap (coreFrom core []) all ∙ core-open handleLimit core (drop at text) whole)
+    left-past w text (length text) upto (omega arith)
+    ∙ sym (ap (wholeFrom w []) all ∙ left-open handleLimit wholeBy w (drop at text) whole)
 
 module _ (to : Audience) (core : Core) (text : List ℕ) (at : ℕ) (before after : List ℕ) where
   -- a line that a line feed closes

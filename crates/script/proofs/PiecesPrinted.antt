@@ -9,19 +9,21 @@ use lib.Seq.{take-all}
 use borrow.Author.Tests.{lt-ltb, le-ltb}
 use Rattle.definitions.specs.declared.Answer.the-variants.{Refused}
 use Rattle.definitions.specs.State.{Core, unopened}
+use Rattle.definitions.specs.Counts.{Whole, wholeNew}
 use Rattle.definitions.proofs.Laws.Tests.{lt-cases}
 use Rattle.grammar.specs.declared.Audience.{Audience}
 use Rattle.grammar.specs.Bytes.{textLimit}
-use Rattle.grammar.specs.Printout.{printed, coreFrom, printoutFor, printoutIn}
+use Rattle.grammar.specs.Printout.{printed, wholeFrom, printoutFor, printoutIn}
 use Rattle.printer.specs.Printed.{lineRoom, Printed}
 use Rattle.printer.proofs.Appending.{appended-front}
 use Rattle.tables.specs.declared.Control.{Control}
 use Rattle.tables.specs.Tables.{Tables}
-use Rattle.tables.specs.Meaning.{coreOf}
+use Rattle.tables.specs.Meaning.{coreOf, wholeOf}
 use Rattle.tables.specs.Invariant.{Valid}
+use Rattle.tables.proofs.RunCounts.{shut-whole}
 use Rattle.script.specs.declared.Progress.{Progress}
-use Rattle.script.specs.Pieces.{ahead, coreBehind, Walked, Unmoved, Piece, Start, Written, started, piece, PiecesPrinted}
-use Rattle.script.proofs.LinePrinted.{ahead-none, core-here}
+use Rattle.script.specs.Pieces.{ahead, leftBehind, Walked, Unmoved, Piece, Start, Written, started, piece, PiecesPrinted}
+use Rattle.script.proofs.LinePrinted.{ahead-none, left-here}
 
 -- ---- lines behind one another
 
@@ -30,7 +32,7 @@ pub walked-none : (to : Audience) (text : List ℕ) (at : ℕ) (c : Control) (t 
 walked-none to text at c t out valid = record {
   printed = refl;
   fits = omega arith;
-  core = λ upto past. refl;
+  left = λ upto past. refl;
   forth = omega arith;
   within = λ here. here;
   valid = valid;
@@ -45,7 +47,7 @@ pub walked-more : {to : Audience} {text : List ℕ} {at : ℕ} {c : Control} {t 
 walked-more w more = record {
   printed = more .printed ∙ w .printed;
   fits = more .fits;
-  core = λ upto past. more .core upto past ∙ w .core upto (omega (arith, more .forth, past));
+  left = λ upto past. more .left upto past ∙ w .left upto (omega (arith, more .forth, past));
   forth = omega (arith, w .forth, more .forth);
   within = λ here. more .within (w .within here);
   valid = more .valid;
@@ -79,14 +81,14 @@ piece-printed {to} {text} {out = out} {r} {u} bytes p before =
     ∙ ap (λ (l : List ℕ). bytes ++ l) (p .walked .printed)
     ∙ before
 
--- and the core goes on as another does, if the one before it did
+-- and core and counts go on as others do, if those before it did
 pub piece-alike : {to : Audience} {text : List ℕ} {at : ℕ} {c : Control} {t : Tables} {out : List ℕ} {r : Progress} {u : Tables}
-    {other : ℕ → Core}
+    {other : ℕ → Whole}
     → Piece to text at c t out r u
-    → ((upto : ℕ) → at ≤ upto → coreBehind (coreOf c t) text at upto ≡ other upto)
+    → ((upto : ℕ) → at ≤ upto → leftBehind (wholeOf c t) text at upto ≡ other upto)
     → (upto : ℕ) → r .next ≤ upto
-    → coreBehind (coreOf (r .control) u) text (r .next) upto ≡ other upto
-piece-alike p before upto past = p .walked .core upto past ∙ before upto (omega (arith, p .walked .forth, past))
+    → leftBehind (wholeOf (r .control) u) text (r .next) upto ≡ other upto
+piece-alike p before upto past = p .walked .left upto past ∙ before upto (omega (arith, p .walked .forth, past))
 
 -- ---- before the first piece
 
@@ -138,22 +140,22 @@ sofar to text _ _ _ t (started {out} {r} s room) =
     ap (λ (x : Core). take (r .written) out ++ ahead to x text (r .next)) (s .core t .0) ∙ s .printed to room
 sofar to text _ _ _ u (piece {bytes} {at} {c} {t} w p) = piece-printed bytes p (sofar to text bytes at c t w)
 
--- the core goes with the text up to any later place as the unopened core does from the first byte
+-- core and counts go with the text up to any later place as those of an unopened core do from the first byte
 alike : (to : Audience) (text bytes : List ℕ) (at : ℕ) (c : Control) (t : Tables) → Written to text bytes at c t → length text ≤ textLimit
     → (upto : ℕ) → at ≤ upto
-    → coreBehind (coreOf c t) text at upto ≡ coreBehind unopened text 0 upto
+    → leftBehind (wholeOf c t) text at upto ≡ leftBehind wholeNew text 0 upto
 alike to text _ _ _ t (started {out} {r} s room) short upto past =
     let first : r .next ≡ 0 = rw (le-ltb textLimit (length text) short) at (s .next) in
-    λ i. coreBehind (s .core t .0 i) text (first i) upto
+    λ i. leftBehind (shut-whole (r .control) t (s .core t .0) i) text (first i) upto
 alike to text _ _ _ u (piece {bytes} {at} {c} {t} w p) short upto past =
     piece-alike p (λ place behind. alike to text bytes at c t w short place behind) upto past
 
-core : (to : Audience) (text bytes : List ℕ) (at : ℕ) (c : Control) (t : Tables) → Written to text bytes at c t → length text ≤ textLimit
-    → coreOf c t ≡ coreFrom unopened [] (take at text)
-core to text bytes at c t w short =
+left : (to : Audience) (text bytes : List ℕ) (at : ℕ) (c : Control) (t : Tables) → Written to text bytes at c t → length text ≤ textLimit
+    → wholeOf c t ≡ wholeFrom wholeNew [] (take at text)
+left to text bytes at c t w short =
     let all : at - 0 ≡ at = omega arith in
-    sym (core-here (coreOf c t) text at) ∙ alike to text bytes at c t w short at (omega arith)
-    ∙ ap (λ (n : ℕ). coreFrom unopened [] (take n text)) all
+    sym (left-here (wholeOf c t) text at) ∙ alike to text bytes at c t w short at (omega arith)
+    ∙ ap (λ (n : ℕ). wholeFrom wholeNew [] (take n text)) all
 
 -- a text that is too long is at its end from the start, and stays there
 unread : (to : Audience) (text bytes : List ℕ) (at : ℕ) (c : Control) (t : Tables) → Written to text bytes at c t → textLimit < length text
@@ -173,8 +175,8 @@ pieces-printed = record {
   whole = λ to text bytes at c t w past.
       sym (append-nil bytes) ∙ ap (λ (l : List ℕ). bytes ++ l) (sym (ahead-none to (coreOf c t) text at past))
       ∙ sofar to text bytes at c t w;
-  core = core;
-  wholeCore = λ to text bytes at c t w short past.
-      core to text bytes at c t w short ∙ ap (coreFrom unopened []) (take-all at text past);
+  left = left;
+  wholeLeft = λ to text bytes at c t w short past.
+      left to text bytes at c t w short ∙ ap (wholeFrom wholeNew []) (take-all at text past);
   tooLong = λ to text bytes at c t w over. unread to text bytes at c t w over .1;
 }

@@ -4,13 +4,13 @@ use Prim.Native.Nat.{ℕ, _≤_, _<_}
 use mathlib.Core.Path.{_≡_}
 use mathlib.Core.List.{List, [], _++_}
 use lib.ListN.{length, take}
-use Rattle.definitions.specs.State.{unopened}
+use Rattle.definitions.specs.Counts.{wholeNew}
 use Rattle.grammar.specs.Bytes.{textLimit}
-use Rattle.grammar.specs.Printout.{coreFrom}
+use Rattle.grammar.specs.Printout.{wholeFrom}
 use Rattle.printer.specs.Printed.{lineRoom}
 use Rattle.tables.specs.declared.Control.{Control}
 use Rattle.tables.specs.Tables.{Tables}
-use Rattle.tables.specs.Meaning.{coreOf}
+use Rattle.tables.specs.Meaning.{wholeOf}
 use Rattle.tables.specs.Invariant.{Valid}
 use Rattle.grammar.specs.declared.Audience.{Audience}
 use Rattle.script.specs.declared.Progress.{Progress}
@@ -43,5 +43,5 @@ module _ {to : Audience} {text bytes : List ℕ} {c : Control} {t : Tables} {at 
   }
 
   -- at the end of a text that is not too long
-  pub reached-core : length text ≤ textLimit → length text ≤ at → coreOf c t ≡ coreFrom unopened [] text
-  reached-core short past = pieces-printed .wholeCore to text bytes at c t (k .sofar) short past
+  pub reached-left : length text ≤ textLimit → length text ≤ at → wholeOf c t ≡ wholeFrom wholeNew [] text
+  reached-left short past = pieces-printed .wholeLeft to text bytes at c t (k .sofar) short past

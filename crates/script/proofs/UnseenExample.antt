@@ -199,6 +199,7 @@ another-handle handle another = λ i. record {
   handles = overwritten-twice (t₂ .handles) handle another i;
   lengths = overwritten-twice (t₂ .lengths) 64 64 i;
   links = t₃ handle .links;
+  counts = t₃ handle .counts;
 }
 
 abbrev calledTrace : ℕ → Trace

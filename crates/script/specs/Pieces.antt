@@ -9,14 +9,15 @@ use mathlib.Core.Bool.{cond}
 use lib.Dec.{ltb}
 use lib.ListN.{length, take, drop}
 use Rattle.definitions.specs.State.{Core, unopened}
+use Rattle.definitions.specs.Counts.{Whole, wholeNew}
 use Rattle.grammar.specs.Bytes.{textLimit}
 use Rattle.grammar.specs.declared.Audience.{Audience}
-use Rattle.grammar.specs.Printout.{printedFrom, coreFrom, printoutFor}
+use Rattle.grammar.specs.Printout.{printedFrom, wholeFrom, printoutFor}
 use Rattle.printer.specs.Printed.{lineRoom}
 use Rattle.reader.specs.LineSpans.{between}
 use Rattle.tables.specs.declared.Control.{Control}
 use Rattle.tables.specs.Tables.{Tables}
-use Rattle.tables.specs.Meaning.{coreOf}
+use Rattle.tables.specs.Meaning.{coreOf, wholeOf}
 use Rattle.tables.specs.Invariant.{Valid}
 use Rattle.script.specs.declared.Progress.{Progress}
 
@@ -24,19 +25,19 @@ use Rattle.script.specs.declared.Progress.{Progress}
 abbrev pub ahead : Audience → Core → List ℕ → ℕ → List ℕ
 ahead to core text at = printedFrom to core [] (drop at text)
 
--- the core behind a text from a place on, up to another
-abbrev pub coreBehind : Core → List ℕ → ℕ → ℕ → Core
-coreBehind core text at upto = coreFrom core [] (between text at upto)
+-- core and counts behind a text from a place on, up to another
+abbrev pub leftBehind : Whole → List ℕ → ℕ → ℕ → Whole
+leftBehind w text at upto = wholeFrom w [] (between text at upto)
 
 -- Lines from a place on were printed behind some bytes: control, place and number of bytes are then those of r, the tables are
--- u, and the bytes stand in out. Up to any place from there on the core goes as the one before does: up to the place itself, it
--- is the core behind the bytes that were passed.
+-- u, and the bytes stand in out. Up to any place from there on core and counts go as those before do: up to the place itself, they
+-- are those behind the bytes that were passed.
 pub record Walked (to : Audience) (text : List ℕ) (at : ℕ) (c : Control) (t : Tables) (before out : List ℕ) (r : Progress)
     (u : Tables) : Type 0 where
   pub printed : take (r .written) out ++ ahead to (coreOf (r .control) u) text (r .next) ≡ before ++ ahead to (coreOf c t) text at
   pub fits : r .written ≤ length out
-  pub core : (upto : ℕ) → r .next ≤ upto
-      → coreBehind (coreOf (r .control) u) text (r .next) upto ≡ coreBehind (coreOf c t) text at upto
+  pub left : (upto : ℕ) → r .next ≤ upto
+      → leftBehind (wholeOf (r .control) u) text (r .next) upto ≡ leftBehind (wholeOf c t) text at upto
   pub forth : at ≤ r .next
   pub within : at ≤ length text → r .next ≤ length text
   pub valid : Valid (r .control) u
@@ -78,7 +79,7 @@ pub data Written (to : Audience) (text : List ℕ) : List ℕ → ℕ → Contro
       → Written to text (bytes ++ take (r .written) out) (r .next) (r .control) u
 
 -- Wherever the pieces have come, what was written with what is ahead is the printout; so at the end of the text it is the
--- printout. The core there is the one behind the bytes so far, and of a text that is too long it is unopened.
+-- printout. Core and counts there are those behind the bytes so far, and of a text that is too long the core is unopened.
 pub record PiecesPrinted : Type 0 where
   pub sofar : (to : Audience) (text bytes : List ℕ) (at : ℕ) (c : Control) (t : Tables)
       → Written to text bytes at c t
@@ -87,15 +88,15 @@ pub record PiecesPrinted : Type 0 where
       → Written to text bytes at c t
       → length text ≤ at
       → bytes ≡ printoutFor to text
-  pub core : (to : Audience) (text bytes : List ℕ) (at : ℕ) (c : Control) (t : Tables)
+  pub left : (to : Audience) (text bytes : List ℕ) (at : ℕ) (c : Control) (t : Tables)
       → Written to text bytes at c t
       → length text ≤ textLimit
-      → coreOf c t ≡ coreFrom unopened [] (take at text)
-  pub wholeCore : (to : Audience) (text bytes : List ℕ) (at : ℕ) (c : Control) (t : Tables)
+      → wholeOf c t ≡ wholeFrom wholeNew [] (take at text)
+  pub wholeLeft : (to : Audience) (text bytes : List ℕ) (at : ℕ) (c : Control) (t : Tables)
       → Written to text bytes at c t
       → length text ≤ textLimit
       → length text ≤ at
-      → coreOf c t ≡ coreFrom unopened [] text
+      → wholeOf c t ≡ wholeFrom wholeNew [] text
   pub tooLong : (to : Audience) (text bytes : List ℕ) (at : ℕ) (c : Control) (t : Tables)
       → Written to text bytes at c t
       → textLimit < length text

@@ -6,15 +6,15 @@ use Prim.Native.Nat.{ℕ, _-_, _≤_, _<_}
 use mathlib.Core.Path.{_≡_}
 use mathlib.Core.List.{List, [], _++_}
 use lib.ListN.{length, replicate}
-use Rattle.definitions.specs.State.{unopened}
+use Rattle.definitions.specs.Counts.{wholeNew}
 use Rattle.grammar.specs.declared.Audience.{Audience}
 use Rattle.grammar.specs.declared.Audience.the-variants.{Caller}
 use Rattle.grammar.specs.Bytes.{bytes, textLimit}
-use Rattle.grammar.specs.Printout.{coreFrom}
+use Rattle.grammar.specs.Printout.{wholeFrom}
 use Rattle.printer.specs.Printed.{lineRoom}
 use Rattle.tables.specs.declared.Control.{Control}
 use Rattle.tables.specs.Tables.{Tables}
-use Rattle.tables.specs.Meaning.{coreOf}
+use Rattle.tables.specs.Meaning.{wholeOf}
 use Rattle.tables.specs.Invariant.{Valid}
 use Rattle.script.specs.declared.Progress.{Progress}
 use Rattle.script.specs.Pieces.{Start, Piece, Written}
@@ -35,9 +35,9 @@ pub record ThreePieces (c : Control) (t : Tables) : Type 0 where
   pub line : Piece Caller twoLines 0 c t (buffer (bytes "(refused 19)\n")) (progress c 7 13) t
   pub rest : Piece Caller twoLines 7 c t (buffer (bytes "(refused 16)\n")) (progress c 15 13) t
 
--- some control and tables hold the core behind a text
+-- some control and tables hold the core behind a text, and the counts
 abbrev pub Held : List ℕ → Type 0
-Held text = (c : Control) × (t : Tables) × Valid c t × (coreOf c t ≡ coreFrom unopened [] text)
+Held text = (c : Control) × (t : Tables) × Valid c t × (wholeOf c t ≡ wholeFrom wholeNew [] text)
 
 -- there are pieces to the end of a text
 abbrev pub Ended : Audience → List ℕ → Type 0

@@ -9,7 +9,7 @@ use Rattle.grammar.specs.declared.Audience.{Audience}
 use Rattle.grammar.specs.Printout.{printed}
 use Rattle.tables.specs.declared.Control.{Control}
 use Rattle.tables.specs.Tables.{Tables}
-use Rattle.tables.specs.Meaning.{coreOf}
+use Rattle.tables.specs.Meaning.{wholeOf}
 use Rattle.tables.specs.Invariant.{Valid}
 use Rattle.tables.specs.Run.{callsOf}
 use Rattle.tables.specs.Unused.{DifferUnused}
@@ -43,11 +43,11 @@ pub record UnseenOnPaper : Type 0 where
       → callsOf second ≡ callsOf first
       → linesOf second ≡ linesOf first
   -- Both are given the same text from the same place on, for the same audience, in pieces of any length. Wherever both have come
-  -- to the same place, the same bytes were written, and the cores mean the same.
+  -- to the same place, the same bytes were written, and the cores mean the same, with the same counts.
   pub script : (to : Audience) (text : List ℕ) (from : ℕ) (c : Control) (t u : Tables)
       → Valid c t
       → DifferUnused c t u
       → (first second : List ℕ) (at : ℕ) (d e : Control) (v w : Tables)
       → PiecesFrom to text from c t first at d v
       → PiecesFrom to text from c u second at e w
-      → (second ≡ first) × (coreOf e w ≡ coreOf d v)
+      → (second ≡ first) × (wholeOf e w ≡ wholeOf d v)

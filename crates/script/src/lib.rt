@@ -1,5 +1,6 @@
 // A script in pieces: from a place on, each line is parsed and carried out. For the caller one line is printed in answer to it; for the
 // operator, or a private tenant, only ticks print one.
+use counts::COUNTS;
 use definitions::Answer;
 use definitions::Note;
 use generator::Generator;
@@ -61,12 +62,15 @@ fn perform_told(
     handles: &mut [u64; STORE],
     lengths: &mut [u16; STORE],
     links: &mut [u32; LINKS],
+    counts: &mut [u64; COUNTS],
     call: Call,
 ) -> Ticked
-    requires { ⌜ Valid control (tables (now terms) (now stocks) (now handles) (now lengths) (now links)) ⌝ }
+    requires { ⌜ Valid control (tables (now terms) (now stocks) (now handles) (now lengths) (now links) (now counts)) ⌝ }
     ensures { λ r. ⌜ PerformedCall call control
-        (tables (now (terms .entry)) (now (stocks .entry)) (now (handles .entry)) (now (lengths .entry)) (now (links .entry))) r
-        (tables (now (terms .exit)) (now (stocks .exit)) (now (handles .exit)) (now (lengths .exit)) (now (links .exit))) ⌝ }
+        (tables (now (terms .entry)) (now (stocks .entry)) (now (handles .entry)) (now (lengths .entry)) (now (links .entry))
+        (now (counts .entry))) r
+        (tables (now (terms .exit)) (now (stocks .exit)) (now (handles .exit)) (now (lengths .exit)) (now (links .exit))
+        (now (counts .exit))) ⌝ }
 {
     let generator = control.generator;
     match call {
@@ -82,6 +86,7 @@ fn perform_told(
                 handles,
                 lengths,
                 links,
+                counts,
                 threshold,
                 discipline,
                 seed,
@@ -101,6 +106,7 @@ fn perform_told(
                 handles,
                 lengths,
                 links,
+                counts,
                 id,
                 kind,
                 rate,
@@ -121,6 +127,7 @@ fn perform_told(
                 handles,
                 lengths,
                 links,
+                counts,
                 id,
                 kind,
                 rate,
@@ -129,18 +136,38 @@ fn perform_told(
             generator,
         ),
         Call::Leave { id } => undrawn(
-            settings::leave(control, terms, stocks, handles, lengths, links, id),
+            settings::leave(control, terms, stocks, handles, lengths, links, counts, id),
             generator,
         ),
         Call::Load { id, dummies } => undrawn(
-            traffic::load(control, terms, stocks, handles, lengths, links, id, dummies),
+            traffic::load(
+                control,
+                terms,
+                stocks,
+                handles,
+                lengths,
+                links,
+                counts,
+                id,
+                dummies,
+            ),
             generator,
         ),
         Call::Arrive { id, packet } => undrawn(
-            traffic::arrive(control, terms, stocks, handles, lengths, links, id, packet),
+            traffic::arrive(
+                control,
+                terms,
+                stocks,
+                handles,
+                lengths,
+                links,
+                counts,
+                id,
+                packet,
+            ),
             generator,
         ),
-        Call::Tick => slot::tick(control, terms, stocks, handles, lengths, links),
+        Call::Tick => slot::tick(control, terms, stocks, handles, lengths, links, counts),
     }
 }
 
@@ -152,14 +179,26 @@ pub fn perform(
     handles: &mut [u64; STORE],
     lengths: &mut [u16; STORE],
     links: &mut [u32; LINKS],
+    counts: &mut [u64; COUNTS],
     call: Call,
 ) -> Answered
-    requires { ⌜ Valid control (tables (now terms) (now stocks) (now handles) (now lengths) (now links)) ⌝ }
+    requires { ⌜ Valid control (tables (now terms) (now stocks) (now handles) (now lengths) (now links) (now counts)) ⌝ }
     ensures { λ r. ⌜ Promised (eventOf call) control
-        (tables (now (terms .entry)) (now (stocks .entry)) (now (handles .entry)) (now (lengths .entry)) (now (links .entry))) r
-        (tables (now (terms .exit)) (now (stocks .exit)) (now (handles .exit)) (now (lengths .exit)) (now (links .exit))) ⌝ }
+        (tables (now (terms .entry)) (now (stocks .entry)) (now (handles .entry)) (now (lengths .entry)) (now (links .entry))
+        (now (counts .entry))) r
+        (tables (now (terms .exit)) (now (stocks .exit)) (now (handles .exit)) (now (lengths .exit)) (now (links .exit))
+        (now (counts .exit))) ⌝ }
 {
-    let performed = perform_told(control, terms, stocks, handles, lengths, links, call);
+    let performed = perform_told(
+        control,
+        terms,
+        stocks,
+        handles,
+        lengths,
+        links,
+        counts,
+        call,
+    );
     performed.answered
 }
 
@@ -243,13 +282,16 @@ fn line(
     handles: &mut [u64; STORE],
     lengths: &mut [u16; STORE],
     links: &mut [u32; LINKS],
+    counts: &mut [u64; COUNTS],
 ) -> Progress
-    requires { ⌜ Valid control (tables (now terms) (now stocks) (now handles) (now lengths) (now links))
+    requires { ⌜ Valid control (tables (now terms) (now stocks) (now handles) (now lengths) (now links) (now counts))
         × (at < length (now text)) × (written + lineRoom ≤ length (now out)) ⌝ }
     ensures { λ r. ⌜ Walked audience (now (text .entry)) at control
-        (tables (now (terms .entry)) (now (stocks .entry)) (now (handles .entry)) (now (lengths .entry)) (now (links .entry)))
+        (tables (now (terms .entry)) (now (stocks .entry)) (now (handles .entry)) (now (lengths .entry)) (now (links .entry))
+        (now (counts .entry)))
         (take written (now (out .entry))) (now (out .exit)) r
-        (tables (now (terms .exit)) (now (stocks .exit)) (now (handles .exit)) (now (lengths .exit)) (now (links .exit))) × (at < r .next) ⌝ }
+        (tables (now (terms .exit)) (now (stocks .exit)) (now (handles .exit)) (now (lengths .exit)) (now (links .exit))
+        (now (counts .exit))) × (at < r .next) ⌝ }
 {
     let span = reader::line_at(text, at);
     let end = span.end;
@@ -273,7 +315,16 @@ fn line(
         };
     };
     let ticked = is_tick(call);
-    let performed = perform_told(control, terms, stocks, handles, lengths, links, call);
+    let performed = perform_told(
+        control,
+        terms,
+        stocks,
+        handles,
+        lengths,
+        links,
+        counts,
+        call,
+    );
     let answered = performed.answered;
     let answer = answered.answer;
     let left = answered.control;
@@ -328,12 +379,15 @@ pub fn piece(
     handles: &mut [u64; STORE],
     lengths: &mut [u16; STORE],
     links: &mut [u32; LINKS],
+    counts: &mut [u64; COUNTS],
 ) -> Progress
-    requires { ⌜ Valid control (tables (now terms) (now stocks) (now handles) (now lengths) (now links)) ⌝ }
+    requires { ⌜ Valid control (tables (now terms) (now stocks) (now handles) (now lengths) (now links) (now counts)) ⌝ }
     ensures { λ r. ⌜ Piece audience (now (text .entry)) at control
-        (tables (now (terms .entry)) (now (stocks .entry)) (now (handles .entry)) (now (lengths .entry)) (now (links .entry)))
+        (tables (now (terms .entry)) (now (stocks .entry)) (now (handles .entry)) (now (lengths .entry)) (now (links .entry))
+        (now (counts .entry)))
         (now (out .exit)) r
-        (tables (now (terms .exit)) (now (stocks .exit)) (now (handles .exit)) (now (lengths .exit)) (now (links .exit))) ⌝ }
+        (tables (now (terms .exit)) (now (stocks .exit)) (now (handles .exit)) (now (lengths .exit)) (now (links .exit))
+        (now (counts .exit))) ⌝ }
 {
     let mut core = control;
     let mut place = at;
@@ -351,6 +405,7 @@ pub fn piece(
             handles,
             lengths,
             links,
+            counts,
         );
         core = progress.control;
         place = progress.next;

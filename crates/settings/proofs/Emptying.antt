@@ -33,7 +33,7 @@ order-means t order o = ap (map owner) (ordered-walked (t .links) order o)
 
 -- the tables after
 abbrev pub emptiedTables : Tables → ℕ → List ℕ → Tables
-emptiedTables t id links = tables (t .terms) (withBare (t .stocks) id) (t .handles) (t .lengths) links
+emptiedTables t id links = tables (t .terms) (withBare (t .stocks) id) (t .handles) (t .lengths) links (t .counts)
 
 module _ (c : Control) (t : Tables) (old : Shape c t) (id : ℕ) (below : id < ids) (d : Control) (links : List ℕ)
     (quiet : Quiet c d id) (tight : Sound links) (away : Withdrawn links id (old .order)) where
@@ -65,6 +65,7 @@ module _ (c : Control) (t : Tables) (old : Shape c t) (id : ℕ) (below : id < i
       stocks = bare-length (t .stocks) (old .sizes .stocks) id below;
       handles = old .sizes .handles;
       lengths = old .sizes .lengths;
+      counts = old .sizes .counts;
     };
     onlyTerms = λ m j l other. refl;
     onlyStocks = bare-only (t .stocks) (old .sizes .stocks) id below;

@@ -2,18 +2,20 @@
 use Prim.Native.Nat.{ℕ, _<_}
 use mathlib.Core.Path.{_≡_, refl, sym, ap, _∙_}
 use mathlib.Core.Logic.{_≢_}
-use mathlib.Core.Bool.{false}
+use mathlib.Core.Bool.{true, false}
 use mathlib.Core.List.{[]}
 use borrow.Author.Tests.{lt-ltb, ltb-true, not-true}
 use Rattle.definitions.specs.Event.{Join}
 use Rattle.definitions.specs.declared.Answer.the-variants.{Accepted, Refused}
 use Rattle.definitions.specs.Sizes.{ids}
 use Rattle.definitions.specs.Client.{Kind, absent, indifferent, private, kindOf, isActive, isIndifferent, joining}
+use Rattle.definitions.specs.Counts.{anew, entryOfAccepted, entryOfRefused}
 use Rattle.definitions.specs.Stock.{bare}
 use Rattle.definitions.specs.State.{updated, put, stocked, without, emptied}
 use Rattle.definitions.specs.Checks.{rates, joinChecks}
 use Rattle.definitions.proofs.Laws.Tests.{true-false}
 use Rattle.definitions.proofs.Laws.Checked.{Passed}
+use Rattle.counts.specs.CountTable.{forOne, Entered}
 use Rattle.order.specs.Owner.{placesOf}
 use Rattle.tables.specs.declared.Control.{Control}
 use Rattle.tables.specs.declared.Answered.{Answered}
@@ -23,6 +25,8 @@ use Rattle.tables.specs.Meaning.{kindAt, clientAt, clientsOf, sideOf, stateOf}
 use Rattle.tables.specs.Invariant.{SoundCore, Valid}
 use Rattle.tables.specs.Numbers.{refusal}
 use Rattle.tables.specs.Promise.{Meets}
+use Rattle.tables.specs.Counting.{Counts}
+use Rattle.tables.proofs.Countings.{counts-refused, counts-accepted}
 use Rattle.tables.proofs.Promises.{refused-with, opened, all-passed, sound-before, accepted-with}
 use Rattle.tables.proofs.Checkings.{joins}
 use Rattle.settings.specs.Writes.{Room, ratesAfter, withBare, Recast, Quiet, Withdrawn}
@@ -41,6 +45,11 @@ module _ (c : Control) (t : Tables) (valid : Valid c t) (id kind rate burst : �
       → n ≡ refusal c t (λ s. joinChecks s id kind rate burst) → n ≢ 0 → Meets (Join id kind rate burst) c t r t
   unfolding joins
   join-refused = refused-with (Join id kind rate burst) (joins id kind rate burst) c t valid
+
+  pub join-refused-counts : (r : Answered) (n : ℕ) → r ≡ record { control = c; answer = Refused n }
+      → Counts (Join id kind rate burst) c t r t
+  unfolding entryOfRefused
+  join-refused-counts r n e = counts-refused n e refl (λ j indifferent waiting. refl)
 
   module _ (none : refusal c t (λ s. joinChecks s id kind rate burst) ≡ 0) where
     passed : Passed (joinChecks (stateOf c t) id kind rate burst)
@@ -94,14 +103,27 @@ module _ (c : Control) (t : Tables) (valid : Valid c t) (id kind rate burst : �
           cast = cast;
         }
 
+        opened-after : d .opened ≡ true
+        unfolding joins
+        opened-after =
+            placed-opened c t id kind rate burst b _ (t .links) d placement
+            ∙ opened (Join id kind rate burst) (joins id kind rate burst) c t valid none
+
+        -- the sheet of the client begins at zero
+        pub join-counts : (r : Answered) (u : Tables) → r ≡ record { control = d; answer = Accepted }
+            → Entered (forOne id anew) (t .counts) (u .counts)
+            → Counts (Join id kind rate burst) c t r u
+        unfolding joins entryOfAccepted
+        join-counts r u e after =
+            counts-accepted id anew valid (opened (Join id kind rate burst) (joins id kind rate burst) c t valid none) opened-after
+            join-below e after (λ j. refl)
+
         pub join-accepted : (r : Answered) → r ≡ record { control = d; answer = Accepted }
             → Meets (Join id kind rate burst) c t r (placedTables (emptiedTables t id (t .links)) id rate burst)
         unfolding joins
         join-accepted r e =
             accepted-with (Join id kind rate burst) (joins id kind rate burst) c t valid none r d
-            (placedTables (emptiedTables t id (t .links)) id rate burst) e
-            (placed-opened c t id kind rate burst b _ (t .links) d placement
-            ∙ opened (Join id kind rate burst) (joins id kind rate burst) c t valid none)
+            (placedTables (emptiedTables t id (t .links)) id rate burst) e opened-after
             (placed-state c t id kind rate burst b _ (t .links) d placement
             ∙ ap (updated (stateOf c t) (put (stateOf c t .clients) id (joining kind rate burst))) side-made)
             (placed-shape c t id kind rate burst b _ (t .links) d placement)

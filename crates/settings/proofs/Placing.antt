@@ -29,6 +29,7 @@ use Rattle.settings.proofs.Emptying.{emptied-count}
 abbrev pub placedTables : Tables → ℕ → ℕ → ℕ → Tables
 placedTables t id rate burst =
     tables (withTerms (t .terms) id rate burst 0) (t .stocks) (t .handles) (t .lengths) (t .links)
+    (t .counts)
 
 -- no kind is both
 apart-kinds : (k : Kind) → isPrivate k ≡ true → isIndifferent k ≡ false
@@ -41,7 +42,7 @@ pub record Placement (c : Control) (t : Tables) (id kind rate burst : ℕ) (b : 
     : Type 0 where
   pub sound : SoundCore c t
   pub below : id < ids
-  pub bare : Emptied c t id b (tables (t .terms) stocks (t .handles) (t .lengths) links)
+  pub bare : Emptied c t id b (tables (t .terms) stocks (t .handles) (t .lengths) links (t .counts))
   -- it holds its rate of the threshold
   pub holds : held (joining kind rate burst) ≡ rate
   pub cast : Recast (withRates b (ratesAfter b (t .terms) id rate)) d id (kindOf kind)
@@ -49,7 +50,7 @@ pub record Placement (c : Control) (t : Tables) (id kind rate burst : ℕ) (b : 
 module _ (c : Control) (t : Tables) (id kind rate burst : ℕ) (b : Control) (stocks links : List ℕ) (d : Control)
     (p : Placement c t id kind rate burst b stocks links d) where
   abbrev u : Tables
-  u = tables (t .terms) stocks (t .handles) (t .lengths) links
+  u = tables (t .terms) stocks (t .handles) (t .lengths) links (t .counts)
 
   abbrev after : Tables
   after = placedTables u id rate burst
@@ -97,6 +98,7 @@ module _ (c : Control) (t : Tables) (id kind rate burst : ℕ) (b : Control) (st
       stocks = old .sizes .stocks;
       handles = old .sizes .handles;
       lengths = old .sizes .lengths;
+      counts = old .sizes .counts;
     };
     onlyTerms = terms-only (t .terms) (old .sizes .terms) id rate burst 0 (p .below);
     onlyStocks = λ m j l other. refl;

@@ -25,7 +25,7 @@ retunedControl c t id rate = withRates c (ratesAfter c (t .terms) id rate)
 abbrev pub retunedTables : Tables → ℕ → ℕ → ℕ → Tables
 retunedTables t id rate burst =
     tables (withTerms (t .terms) id rate burst (retunedLevel (t .terms) id burst))
-    (t .stocks) (t .handles) (t .lengths) (t .links)
+    (t .stocks) (t .handles) (t .lengths) (t .links) (t .counts)
 
 module _ (c : Control) (t : Tables) (sound : SoundCore c t) (id rate burst : ℕ) (below : id < ids)
     (active : isActive (kindAt c id) ≡ true) where
@@ -68,6 +68,7 @@ module _ (c : Control) (t : Tables) (sound : SoundCore c t) (id rate burst : ℕ
       stocks = old .sizes .stocks;
       handles = old .sizes .handles;
       lengths = old .sizes .lengths;
+      counts = old .sizes .counts;
     };
     onlyTerms = terms-only (t .terms) (old .sizes .terms) id rate burst level below;
     onlyStocks = λ m j l other. refl;

@@ -85,6 +85,6 @@ pub record Emptied (c : Control) (t : Tables) (id : ℕ) (d : Control) (u : Tabl
 -- what an emptying gives, whatever the tables that it neither reads nor writes
 abbrev pub Empties : Control → List ℕ → List ℕ → ℕ → Control → List ℕ → List ℕ → Type 0
 Empties c stocks links id d bare rest =
-    (terms handles lengths : List ℕ)
-    → Shape c (tables terms stocks handles lengths links)
-    → Emptied c (tables terms stocks handles lengths links) id d (tables terms bare handles lengths rest)
+    (terms handles lengths counts : List ℕ)
+    → Shape c (tables terms stocks handles lengths links counts)
+    → Emptied c (tables terms stocks handles lengths links counts) id d (tables terms bare handles lengths rest counts)

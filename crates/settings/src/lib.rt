@@ -1,5 +1,7 @@
 // Join, change and leave. `empty` takes away what an id has to send, and `place_client` gives it the terms of a new client, a
 // leave those of nobody: change and leave are the one and then the other. Only a change that keeps the kind keeps the client.
+use counts::COUNTS;
+use counts::EMPTIED;
 use definitions::BURST_LIMIT;
 use definitions::IDS;
 use definitions::INDIFFERENT;
@@ -29,7 +31,7 @@ ghost use Rattle.definitions.specs.Client.{kindOf, isActive, sameKind};
 ghost use Rattle.definitions.specs.Checks.{within, burstFits, termChecks, joinChecks, changeChecks};
 ghost use Rattle.order.specs.Order.{Sound, Ordered};
 ghost use Rattle.order.specs.Owner.{placesOf};
-ghost use Rattle.tables.specs.Tables.{Tables, tables, rateAt, ring};
+ghost use Rattle.tables.specs.Tables.{Tables, tables, rateAt, countAt, ring};
 ghost use Rattle.tables.specs.Controls.{withRates};
 ghost use Rattle.tables.specs.Meaning.{kindAt};
 ghost use Rattle.tables.specs.Invariant.{Valid};
@@ -243,9 +245,9 @@ fn change_number(
     burst: u32,
 ) -> u32
     requires { ⌜ (control .opened ≡ true → id < ids → rateAt (now terms) id ≤ control .rates) ⌝ }
-    ensures { λ r. ⌜ ((stocks handles lengths links : List ℕ)
-        → Valid control (tables (now (terms .entry)) stocks handles lengths links)
-        → r ≡ refusal control (tables (now (terms .entry)) stocks handles lengths links)
+    ensures { λ r. ⌜ ((stocks handles lengths links counts : List ℕ)
+        → Valid control (tables (now (terms .entry)) stocks handles lengths links counts)
+        → r ≡ refusal control (tables (now (terms .entry)) stocks handles lengths links counts)
         (λ s. changeChecks s id kind rate burst)) ⌝ }
 {
     let number = tables::active_number(control, id);
@@ -267,7 +269,15 @@ fn keeps_kind(control: Control, id: u32, kind: u32) -> bool
     kind == PRIVATE
 }
 
-// Sets an inactive id up with a client (paper 01, "Join"). Refused: 19, 4, 6, 7, 8, 9, 10.
+// How many packets of an id wait.
+fn waiting_of(stocks: &[u32; STOCKS], id: u32) -> u64
+    requires { ⌜ id < ids ⌝ }
+    ensures { λ r. ⌜ r ≡ countAt (now (stocks .entry)) id ⌝ }
+{
+    tables::wide(stocks[(COUNT + id) as usize])
+}
+
+// Sets an inactive id up with a client, whose counts begin at zero (paper 01, "Join"). Refused: 19, 4, 6, 7, 8, 9, 10.
 pub fn join(
     control: Control,
     terms: &mut [u32; TERMS],
@@ -275,25 +285,29 @@ pub fn join(
     handles: &[u64; STORE],
     lengths: &[u16; STORE],
     links: &[u32; LINKS],
+    counts: &mut [u64; COUNTS],
     id: u32,
     kind: u32,
     rate: u32,
     burst: u32,
 ) -> Answered
-    requires { ⌜ Valid control (tables (now terms) (now stocks) (now handles) (now lengths) (now links)) ⌝ }
+    requires { ⌜ Valid control (tables (now terms) (now stocks) (now handles) (now lengths) (now links) (now counts)) ⌝ }
     ensures { λ r. ⌜ Promised (Join id kind rate burst) control
-        (tables (now (terms .entry)) (now (stocks .entry)) (now (handles .entry)) (now (lengths .entry)) (now (links .entry))) r
-        (tables (now (terms .exit)) (now (stocks .exit)) (now (handles .exit)) (now (lengths .exit)) (now (links .exit))) ⌝ }
+        (tables (now (terms .entry)) (now (stocks .entry)) (now (handles .entry)) (now (lengths .entry)) (now (links .entry))
+        (now (counts .entry))) r
+        (tables (now (terms .exit)) (now (stocks .exit)) (now (handles .exit)) (now (lengths .exit)) (now (links .exit))
+        (now (counts .exit))) ⌝ }
 {
     let number = join_number(control, id, kind, rate, burst);
     if number != 0 {
         return tables::refused(control, number);
     }
     let bare = clear(control, stocks, id);
+    counts::clear(counts, id);
     tables::accepted(place_client(bare, terms, id, kind, rate, burst))
 }
 
-// Gives an active client new terms, and a new start where its kind differs (paper 01, "Change").
+// Gives an active client new terms, and a new start where its kind differs (paper 01, "Change"). What that empties is counted.
 // Refused: 19, 4, 5, 7, 8, 9, 10.
 pub fn change(
     control: Control,
@@ -302,15 +316,18 @@ pub fn change(
     handles: &[u64; STORE],
     lengths: &[u16; STORE],
     links: &mut [u32; LINKS],
+    counts: &mut [u64; COUNTS],
     id: u32,
     kind: u32,
     rate: u32,
     burst: u32,
 ) -> Answered
-    requires { ⌜ Valid control (tables (now terms) (now stocks) (now handles) (now lengths) (now links)) ⌝ }
+    requires { ⌜ Valid control (tables (now terms) (now stocks) (now handles) (now lengths) (now links) (now counts)) ⌝ }
     ensures { λ r. ⌜ Promised (Change id kind rate burst) control
-        (tables (now (terms .entry)) (now (stocks .entry)) (now (handles .entry)) (now (lengths .entry)) (now (links .entry))) r
-        (tables (now (terms .exit)) (now (stocks .exit)) (now (handles .exit)) (now (lengths .exit)) (now (links .exit))) ⌝ }
+        (tables (now (terms .entry)) (now (stocks .entry)) (now (handles .entry)) (now (lengths .entry)) (now (links .entry))
+        (now (counts .entry))) r
+        (tables (now (terms .exit)) (now (stocks .exit)) (now (handles .exit)) (now (lengths .exit)) (now (links .exit))
+        (now (counts .exit))) ⌝ }
 {
     let number = change_number(control, terms, id, kind, rate, burst);
     if number != 0 {
@@ -319,11 +336,12 @@ pub fn change(
     if keeps_kind(control, id, kind) {
         return tables::accepted(retune(control, terms, id, rate, burst));
     }
+    counts::raise(counts, id, EMPTIED, waiting_of(stocks, id));
     let bare = empty(control, stocks, links, id);
     tables::accepted(place_client(bare, terms, id, kind, rate, burst))
 }
 
-// Takes an active client away, with all that it has (paper 01, "Leave"). Refused: 19, 4, 5.
+// Takes an active client away, with all that it has, its counts too (paper 01, "Leave"). Refused: 19, 4, 5.
 pub fn leave(
     control: Control,
     terms: &mut [u32; TERMS],
@@ -331,17 +349,21 @@ pub fn leave(
     handles: &[u64; STORE],
     lengths: &[u16; STORE],
     links: &mut [u32; LINKS],
+    counts: &mut [u64; COUNTS],
     id: u32,
 ) -> Answered
-    requires { ⌜ Valid control (tables (now terms) (now stocks) (now handles) (now lengths) (now links)) ⌝ }
+    requires { ⌜ Valid control (tables (now terms) (now stocks) (now handles) (now lengths) (now links) (now counts)) ⌝ }
     ensures { λ r. ⌜ Promised (Leave id) control
-        (tables (now (terms .entry)) (now (stocks .entry)) (now (handles .entry)) (now (lengths .entry)) (now (links .entry))) r
-        (tables (now (terms .exit)) (now (stocks .exit)) (now (handles .exit)) (now (lengths .exit)) (now (links .exit))) ⌝ }
+        (tables (now (terms .entry)) (now (stocks .entry)) (now (handles .entry)) (now (lengths .entry)) (now (links .entry))
+        (now (counts .entry))) r
+        (tables (now (terms .exit)) (now (stocks .exit)) (now (handles .exit)) (now (lengths .exit)) (now (links .exit))
+        (now (counts .exit))) ⌝ }
 {
     let number = tables::active_number(control, id);
     if number != 0 {
         return tables::refused(control, number);
     }
     let bare = empty(control, stocks, links, id);
+    counts::clear(counts, id);
     tables::accepted(place_client(bare, terms, id, NO_KIND, 0, 0))
 }

@@ -96,7 +96,7 @@ module _ (c : Control) (t : Tables) (id : ℕ) (sender : Sender c t id) where
     idle-spent empty =
         subst
         (λ (xs : List ℕ). Spent c t id (record { control = c; outcome = Idle id })
-        (tables (t .terms) xs (t .handles) (t .lengths) (t .links)))
+        (tables (t .terms) xs (t .handles) (t .lengths) (t .links) (t .counts)))
         same (pool-spends (Idle id) (rw empty))
       where
         lower : pool - 1 ≡ pool

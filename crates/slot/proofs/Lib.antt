@@ -7,3 +7,4 @@ pub mod RefillMarked
 pub mod RefillEach
 pub mod Refill
 pub mod WholeTick
+pub mod TickCounts

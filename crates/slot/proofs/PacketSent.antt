@@ -161,7 +161,7 @@ module _ (c : Control) (t : Tables) (id : ℕ) (sender : Sender c t id) where
       d = withWaiting c word
 
       abbrev u : Tables
-      u = tables (t .terms) (popped (t .stocks) id) (t .handles) (t .lengths) links
+      u = tables (t .terms) (popped (t .stocks) id) (t .handles) (t .lengths) links (t .counts)
 
       abbrev o : Left links
       o = left links unlinked
@@ -195,6 +195,7 @@ module _ (c : Control) (t : Tables) (id : ℕ) (sender : Sender c t id) where
           stocks = simp length-set (old .sizes .stocks);
           handles = old .sizes .handles;
           lengths = old .sizes .lengths;
+          counts = old .sizes .counts;
         };
         onlyTerms = λ m j l other. refl;
         onlyStocks = only-set (t .stocks) _ countColumn id (count - 1) (sender .below)
@@ -249,13 +250,13 @@ module _ (c : Control) (t : Tables) (id : ℕ) (sender : Sender c t id) where
         → Settled c remaining id d
         → r ≡ packetAt t place
         → n ≡ cond (marked (c .private) id) (longest - r .length) 0
-        → Spent c t id (record { control = d; outcome = Real id r n }) (tables (t .terms) stocks (t .handles) (t .lengths) links)
+        → Spent c t id (record { control = d; outcome = Real id r n }) (tables (t .terms) stocks (t .handles) (t .lengths) links (t .counts))
     packet-sent stocks links remaining d r n e unlinked f settled p q =
         subst
         (λ (xs : List ℕ). Spent c t id (record { control = d; outcome = Real id r n })
-        (tables (t .terms) xs (t .handles) (t .lengths) links))
+        (tables (t .terms) xs (t .handles) (t .lengths) links (t .counts)))
         (sym e)
         (subst (λ (x : Control). Spent c t id (record { control = x; outcome = Real id r n })
-        (tables (t .terms) (popped (t .stocks) id) (t .handles) (t .lengths) links))
+        (tables (t .terms) (popped (t .stocks) id) (t .handles) (t .lengths) links (t .counts)))
         (sym (settled .same))
         (packet-spent links (d .waiting) unlinked (λ j. settled .marks j ∙ rw (f, e)) (Real id r n) (real-sent r p n q)))

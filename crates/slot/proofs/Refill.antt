@@ -22,7 +22,7 @@ use Rattle.slot.specs.Slots.{unfilled}
 
 module _ (d : Control) (u : Tables) (shape : Shape d u) (terms : List ℕ) (h : Refilled (d .indifferent) (u .terms) terms) where
   abbrev v : Tables
-  v = tables terms (u .stocks) (u .handles) (u .lengths) (u .links)
+  v = tables terms (u .stocks) (u .handles) (u .lengths) (u .links) (u .counts)
 
   client-refilled : (j : ℕ) → j < ids → clientAt d v j ≡ refilled (clientAt d u j)
   unfolding clientAt refilled levelAfter
@@ -53,6 +53,7 @@ module _ (d : Control) (u : Tables) (shape : Shape d u) (terms : List ℕ) (h : 
       stocks = shape .sizes .stocks;
       handles = shape .sizes .handles;
       lengths = shape .sizes .lengths;
+      counts = shape .sizes .counts;
     };
     heads = shape .heads;
     waits = shape .waits;

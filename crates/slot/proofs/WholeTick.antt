@@ -107,7 +107,7 @@ module _ (c : Control) (t : Tables) (valid : Valid c t) where
 
       pub tick-done : (terms : List ℕ) → Refilled (c .indifferent) (u .terms) terms
           → (a : Answered) → a ≡ record { control = r .control; answer = Slot (r .outcome) }
-          → Meets Tick c t a (tables terms (u .stocks) (u .handles) (u .lengths) (u .links))
+          → Meets Tick c t a (tables terms (u .stocks) (u .handles) (u .lengths) (u .links) (u .counts))
       unfolding step onTick
       tick-done terms h a e = rw e (record {
         answer = ap Slot (done .outcome) ∙ ap (λ (q : Result). q .answer) (sym told);
@@ -116,7 +116,7 @@ module _ (c : Control) (t : Tables) (valid : Valid c t) where
       })
         where
           v : Tables
-          v = tables terms (u .stocks) (u .handles) (u .lengths) (u .links)
+          v = tables terms (u .stocks) (u .handles) (u .lengths) (u .links) (u .counts)
 
           h′ : Refilled (r .control .indifferent) (u .terms) terms
           h′ = rw (done .indifferent) h

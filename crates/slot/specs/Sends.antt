@@ -57,13 +57,14 @@ pub record Spent (c : Control) (t : Tables) (id : ℕ) (r : Sent) (u : Tables) :
   pub shape : Shape (r .control) u
   pub same : r .control ≡ withWaiting c (r .control .waiting)
 
--- Sending reads and writes no terms. There are terms with which the id may send, ..
+-- Sending reads and writes no terms and no counts. There are such with which the id may send, ..
 abbrev pub SomeSender : Control → List ℕ → List ℕ → List ℕ → List ℕ → ℕ → Type 0
-SomeSender c stocks handles lengths links id = (terms : List ℕ) × Sender c (tables terms stocks handles lengths links) id
+SomeSender c stocks handles lengths links id =
+    (terms : List ℕ) × (counts : List ℕ) × Sender c (tables terms stocks handles lengths links counts) id
 
--- .. and whatever the terms, if it may, it has sent.
+-- .. and whatever these are, if it may, it has sent.
 abbrev pub Spends : Control → List ℕ → List ℕ → List ℕ → List ℕ → ℕ → Sent → List ℕ → List ℕ → Type 0
 Spends c stocks handles lengths links id r stocks′ links′ =
-    (terms : List ℕ)
-    → Sender c (tables terms stocks handles lengths links) id
-    → Spent c (tables terms stocks handles lengths links) id r (tables terms stocks′ handles lengths links′)
+    (terms counts : List ℕ)
+    → Sender c (tables terms stocks handles lengths links counts) id
+    → Spent c (tables terms stocks handles lengths links counts) id r (tables terms stocks′ handles lengths links′ counts)

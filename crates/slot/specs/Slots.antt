@@ -30,13 +30,14 @@ pub record Done (c : Control) (t : Tables) (r : Sent) (u : Tables) : Type 0 wher
   pub opened : r .control .opened ≡ c .opened
   pub indifferent : r .control .indifferent ≡ c .indifferent
 
--- Doing a turn reads and writes no terms. There are terms with which it is due, ..
+-- Doing a turn reads and writes no terms and no counts. There are such with which it is due, ..
 abbrev pub SomeDue : Control → List ℕ → List ℕ → List ℕ → List ℕ → Choice → Type 0
-SomeDue c stocks handles lengths links choice = (terms : List ℕ) × Due c (tables terms stocks handles lengths links) choice
+SomeDue c stocks handles lengths links choice =
+    (terms : List ℕ) × (counts : List ℕ) × Due c (tables terms stocks handles lengths links counts) choice
 
--- .. and whatever the terms, if it is due, it is done.
+-- .. and whatever these are, if it is due, it is done.
 abbrev pub Does : Control → List ℕ → List ℕ → List ℕ → List ℕ → Choice → Sent → List ℕ → List ℕ → Type 0
 Does c stocks handles lengths links choice r stocks′ links′ =
-    (terms : List ℕ)
-    → Due c (tables terms stocks handles lengths links) choice
-    → Done c (tables terms stocks handles lengths links) r (tables terms stocks′ handles lengths links′)
+    (terms counts : List ℕ)
+    → Due c (tables terms stocks handles lengths links counts) choice
+    → Done c (tables terms stocks handles lengths links counts) r (tables terms stocks′ handles lengths links′ counts)

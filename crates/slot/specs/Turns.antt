@@ -36,6 +36,7 @@ abbrev pub HeldByBoth : Control → List ℕ → Type 0
 HeldByBoth c terms =
     c .rates ≡ sumBelow ids (weightAt (c .private) terms) + sumBelow ids (weightAt (c .indifferent) terms)
 
--- with some stocks, handles and lengths the core is sound: a choice looks at none of them
+-- with some stocks, handles, lengths and counts the core is sound: a choice looks at none of them
 abbrev pub SoundWith : Control → List ℕ → List ℕ → Type 0
-SoundWith c terms links = (k : List ℕ) × (h : List ℕ) × (l : List ℕ) × SoundCore c (tables terms k h l links)
+SoundWith c terms links =
+    (k : List ℕ) × (h : List ℕ) × (l : List ℕ) × (n : List ℕ) × SoundCore c (tables terms k h l links n)

@@ -1,4 +1,5 @@
 // One slot: whose it is, what that client sends, and the refill of every bucket (paper 01, "Tick is one slot").
+use counts::COUNTS;
 use definitions::Answer;
 use definitions::FIRST_COME;
 use definitions::IDS;
@@ -101,8 +102,8 @@ fn draw_among(
 // The private are drawn among whether they wait or not.
 fn turn(control: Control, terms: &[u32; TERMS], links: &[u32; LINKS]) -> Choice
     requires { ⌜ SoundWith control (now terms) (now links) ⌝ }
-    ensures { λ r. ⌜ ((k h l : List ℕ) → SoundCore control (tables (now (terms .entry)) k h l (now (links .entry)))
-        → Chosen r (turn (stateOf control (tables (now (terms .entry)) k h l (now (links .entry)))))) ⌝ }
+    ensures { λ r. ⌜ ((k h l n : List ℕ) → SoundCore control (tables (now (terms .entry)) k h l (now (links .entry)) n)
+        → Chosen r (turn (stateOf control (tables (now (terms .entry)) k h l (now (links .entry)) n)))) ⌝ }
 {
     let generator = control.generator;
     let contenders = marks::both(control.waiting, control.indifferent);
@@ -137,7 +138,7 @@ struct Sent {
 // The packet that lies at a place.
 fn packet_at(handles: &[u64; STORE], lengths: &[u16; STORE], place: u32) -> Packet
     requires { ⌜ place < sentinel ⌝ }
-    ensures { λ r. ⌜ ((e k n : List ℕ) → r ≡ packetAt (tables e k (now (handles .entry)) (now (lengths .entry)) n) place) ⌝ }
+    ensures { λ r. ⌜ ((e k n m : List ℕ) → r ≡ packetAt (tables e k (now (handles .entry)) (now (lengths .entry)) n m) place) ⌝ }
 {
     let at = place as usize;
     Packet {
@@ -329,7 +330,8 @@ pub struct Ticked {
     pub sample: Sample,
 }
 
-// One slot (paper 01, "Tick is one slot"): rules 1 to 3 say whose it is, and rule 4 refills after the pick. Refused: 19.
+// One slot (paper 01, "Tick is one slot"): rules 1 to 3 say whose it is, and rule 4 refills after the pick. What was sent is counted.
+// Refused: 19.
 pub fn tick(
     control: Control,
     terms: &mut [u32; TERMS],
@@ -337,14 +339,18 @@ pub fn tick(
     handles: &[u64; STORE],
     lengths: &[u16; STORE],
     links: &mut [u32; LINKS],
+    counts: &mut [u64; COUNTS],
 ) -> Ticked
-    requires { ⌜ Valid control (tables (now terms) (now stocks) (now handles) (now lengths) (now links)) ⌝ }
+    requires { ⌜ Valid control (tables (now terms) (now stocks) (now handles) (now lengths) (now links) (now counts)) ⌝ }
     ensures { λ r. ⌜ Promised Tick control
-        (tables (now (terms .entry)) (now (stocks .entry)) (now (handles .entry)) (now (lengths .entry)) (now (links .entry)))
+        (tables (now (terms .entry)) (now (stocks .entry)) (now (handles .entry)) (now (lengths .entry)) (now (links .entry))
+        (now (counts .entry)))
         (r .answered)
-        (tables (now (terms .exit)) (now (stocks .exit)) (now (handles .exit)) (now (lengths .exit)) (now (links .exit))) ⌝ }
+        (tables (now (terms .exit)) (now (stocks .exit)) (now (handles .exit)) (now (lengths .exit)) (now (links .exit))
+        (now (counts .exit))) ⌝ }
     ensures { λ r. ⌜ StandsFor (r .sample) (drawsOf (coreOf control
-        (tables (now (terms .entry)) (now (stocks .entry)) (now (handles .entry)) (now (lengths .entry)) (now (links .entry))))) ⌝ }
+        (tables (now (terms .entry)) (now (stocks .entry)) (now (handles .entry)) (now (lengths .entry)) (now (links .entry))
+        (now (counts .entry))))) ⌝ }
 {
     if !control.opened {
         let answered = tables::refused(control, UNOPENED);
@@ -359,6 +365,7 @@ pub fn tick(
     refill_all(control.indifferent, terms);
     let after = sent.control;
     let outcome = sent.outcome;
+    counts::send(counts, outcome);
     let answered = Answered {
         control: after,
         answer: Answer::Slot { outcome },

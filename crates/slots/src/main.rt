@@ -1,6 +1,7 @@
-// Reads a script from standard input and writes its printout, the operator's sheet or a tenant's, or the forecast behind it. What is
-// written is decided in `script` and in `forecast`.
+// Reads a script from standard input and writes its printout, the operator's sheet or a tenant's, or the forecast or the count sheets
+// behind it. What is written is decided in `script`, in `forecast` and in `bill`.
 use arguments::ARGUMENT;
+use counts::COUNTS;
 use grammar::Audience;
 use libc::STDERR_FILENO;
 use libc::STDOUT_FILENO;
@@ -16,6 +17,7 @@ ghost use mathlib.Core.Path.{_≡_};
 ghost use lib.ListN.{length};
 ghost use Rattle.grammar.specs.Printout.{printoutFor};
 ghost use Rattle.grammar.specs.Forecast.{forecastBehind};
+ghost use Rattle.grammar.specs.CountLines.{countsPrinted};
 ghost use Rattle.script.specs.Pieces.{Start};
 ghost use Rattle.streams.specs.Writing.{HandedOn};
 ghost use Rattle.slots.specs.PieceRoom.{pieceRoom};
@@ -33,6 +35,7 @@ const NUMBERED: usize = 3;
 enum Request {
     Printout { audience: Audience },
     Forecast { ticks: u32 },
+    Bill,
     Help,
     Unknown,
 }
@@ -49,6 +52,7 @@ fn write_pieces(
     handles: &mut [u64; STORE],
     lengths: &mut [u16; STORE],
     links: &mut [u32; LINKS],
+    counts: &mut [u64; COUNTS],
 ) -> Writing
     requires { ⌜ Start (now text) (now out) first × (pieceRoom ≡ length (now out)) ⌝ }
     ensures { λ r. ⌜ HandedOn r (printoutFor audience (now (text .entry))) ⌝ }
@@ -72,6 +76,7 @@ fn write_pieces(
             handles,
             lengths,
             links,
+            counts,
         );
         control = piece.control;
         at = piece.next;
@@ -90,6 +95,7 @@ fn write_printout(audience: Audience, text: &[u8]) -> Writing
     let mut handles: [u64; STORE] = [0; STORE];
     let mut lengths: [u16; STORE] = [0; STORE];
     let mut links: [u32; LINKS] = [0; LINKS];
+    let mut counts: [u64; COUNTS] = [0; COUNTS];
     let mut out = io::buffer();
     let first = script::start(text, &mut out);
     write_pieces(
@@ -102,6 +108,7 @@ fn write_printout(audience: Audience, text: &[u8]) -> Writing
         &mut handles,
         &mut lengths,
         &mut links,
+        &mut counts,
     )
 }
 
@@ -114,6 +121,7 @@ fn write_forecast(text: &[u8], ticks: u32) -> Writing
     let mut handles: [u64; STORE] = [0; STORE];
     let mut lengths: [u16; STORE] = [0; STORE];
     let mut links: [u32; LINKS] = [0; LINKS];
+    let mut counts: [u64; COUNTS] = [0; COUNTS];
     let mut out = io::buffer();
     let written = forecast::forecast(
         text,
@@ -124,6 +132,31 @@ fn write_forecast(text: &[u8], ticks: u32) -> Writing
         &mut handles,
         &mut lengths,
         &mut links,
+        &mut counts,
+    );
+    streams::write_text(&out[..written])
+}
+
+// Writes the count sheets behind a text, on tables of its own. The buffer has room for the line of every id.
+fn write_bill(text: &[u8]) -> Writing
+    ensures { λ r. ⌜ HandedOn r (countsPrinted (now (text .entry))) ⌝ }
+{
+    let mut terms: [u32; TERMS] = [0; TERMS];
+    let mut stocks: [u32; STOCKS] = [0; STOCKS];
+    let mut handles: [u64; STORE] = [0; STORE];
+    let mut lengths: [u16; STORE] = [0; STORE];
+    let mut links: [u32; LINKS] = [0; LINKS];
+    let mut counts: [u64; COUNTS] = [0; COUNTS];
+    let mut out = io::large_buffer();
+    let written = bill::bill(
+        text,
+        &mut out,
+        &mut terms,
+        &mut stocks,
+        &mut handles,
+        &mut lengths,
+        &mut links,
+        &mut counts,
     );
     streams::write_text(&out[..written])
 }
@@ -134,7 +167,7 @@ fn write_usage(file: i32) -> Writing
 {
     streams::write_to(
         file,
-        b"usage: slots [--sure N | --operator | --tenant I | --help]\n",
+        b"usage: slots [--sure N | --operator | --tenant I | --counts | --help]\n",
     )
 }
 
@@ -145,6 +178,7 @@ fn write_requested(text: &[u8], request: Request) -> Writing
     match request {
         Request::Printout { audience } => write_printout(audience, text),
         Request::Forecast { ticks } => write_forecast(text, ticks),
+        Request::Bill => write_bill(text),
         Request::Help => write_usage(STDOUT_FILENO),
         Request::Unknown => Writing::Bytes(0),
     }
@@ -158,6 +192,9 @@ fn option_alone(option: &[u8]) -> Request
         return Request::Printout {
             audience: Audience::Operator,
         };
+    }
+    if check::same(option, b"--counts") {
+        return Request::Bill;
     }
     if check::same(option, b"--help") {
         return Request::Help;

@@ -22,6 +22,24 @@ use Rattle.tables.specs.Numbers.{firstFailed, refusal}
 abbrev byTests : Bool → Bool → Bool → ℕ → ℕ
 byTests opened below active rest = cond opened (cond below (cond active rest 5) 4) 19
 
+-- where a call for an active client is refused with another number than 19 and 4, the core runs and there is such an id
+pub active-past : (c : Control) (t : Tables) (id n : ℕ) (more : State → List Check)
+    → n ≡ refusal c t (λ s. activeChecks s id (more s))
+    → n ≢ 19
+    → n ≢ 4
+    → (c .opened ≡ true) × (id < ids)
+unfolding refusal firstFailed activeChecks
+active-past c t id n more e runs known = go (c .opened) (ltb id ids) refl refl (λ f. runs (e ∙ f)) (λ f. known (e ∙ f))
+  where
+    rest : ℕ
+    rest = cond (isActive (stateOf c t .clients id .kind)) (firstFailed (more (stateOf c t))) 5
+
+    go : (o b : Bool) → c .opened ≡ o → ltb id ids ≡ b → cond o (cond b rest 4) 19 ≢ 19 → cond o (cond b rest 4) 19 ≢ 4
+        → (c .opened ≡ true) × (id < ids)
+    go true true o b runs known = (o, ltb-true id ids b)
+    go true false o b runs known = absurd (known refl)
+    go false below o b runs known = absurd (runs refl)
+
 module _ (c : Control) (id n : ℕ) (number : (t : Tables) → n ≡ refusal c t (λ s. activeChecks s id [])) where
   abbrev active : Tables → Bool
   active t = isActive (stateOf c t .clients id .kind)
@@ -51,10 +69,10 @@ module _ (c : Control) (id n : ℕ) (number : (t : Tables) → n ≡ refusal c t
         go false b a e = absurd (omega arith)
 
     pub active-opened : c .opened ≡ true
-    active-opened = tests-passed (tables [] [] [] [] []) .0
+    active-opened = tests-passed (tables [] [] [] [] [] []) .0
 
     pub active-below : id < ids
-    active-below = ltb-true id ids (tests-passed (tables [] [] [] [] []) .1)
+    active-below = ltb-true id ids (tests-passed (tables [] [] [] [] [] []) .1)
 
     pub active-rest : (t : Tables) (more : State → List Check)
         → refusal c t (λ s. activeChecks s id (more s)) ≡ firstFailed (more (stateOf c t))

@@ -1,5 +1,6 @@
 -- How the promises of the calls are met, over the lists that the tables hold.
 pub mod Promises
+pub mod Countings
 pub mod Checkings
 pub mod MarkedKinds
 pub mod ActiveChecks
@@ -9,6 +10,7 @@ pub mod Touch
 pub mod PoolWritten
 pub mod DefinedCalls
 pub mod Runs
+pub mod RunCounts
 pub mod SheetsOfRuns
 pub mod CodeStretches
 pub mod StandingPlaces

@@ -17,7 +17,7 @@ use Rattle.tables.proofs.Fields.{only-set, store-own}
 use Rattle.tables.proofs.Touch.{Touch, touch-stocks, touch-shape, waits-here, rates-kept}
 
 abbrev pub pooled : Tables → ℕ → ℕ → Tables
-pooled t id pool = tables (t .terms) (written (t .stocks) poolColumn id pool) (t .handles) (t .lengths) (t .links)
+pooled t id pool = tables (t .terms) (written (t .stocks) poolColumn id pool) (t .handles) (t .lengths) (t .links) (t .counts)
 
 module _ (c : Control) (t : Tables) (old : Shape c t) (id pool : ℕ) (below : id < ids) where
   own : (column : ℕ) → field column (pooled t id pool .stocks) id ≡ cond (eqb column poolColumn) pool (field column (t .stocks) id)
@@ -39,6 +39,7 @@ module _ (c : Control) (t : Tables) (old : Shape c t) (id pool : ℕ) (below : i
       stocks = length-set (t .stocks) _ _ ∙ old .sizes .stocks;
       handles = old .sizes .handles;
       lengths = old .sizes .lengths;
+      counts = old .sizes .counts;
     };
     onlyTerms = λ column j l other. refl;
     onlyStocks = only-set (t .stocks) (t .stocks) poolColumn id _ below (λ column j l other. refl);

@@ -7,6 +7,7 @@ use mathlib.Core.Bool.{Bool, true, false, cond, not, _&&_}
 use mathlib.Core.List.{List, [], _∷_}
 use native.Mathlib.Omega.{arith}
 use lib.Dec.{T, eqb}
+use lib.ListN.{length}
 use Rattle.definitions.specs.Event.{Event}
 use Rattle.definitions.specs.declared.Answer.the-variants.{Accepted, Refused}
 use Rattle.definitions.specs.State.{State, Core, running, unopened}
@@ -18,11 +19,12 @@ use Rattle.definitions.proofs.Laws.Checked.{Passed}
 use Rattle.definitions.proofs.Limits.{step-limits}
 use Rattle.tables.specs.declared.Control.{Control}
 use Rattle.tables.specs.declared.Answered.{Answered}
-use Rattle.tables.specs.Tables.{Tables}
-use Rattle.tables.specs.Meaning.{stateOf, coreOf}
+use Rattle.tables.specs.Tables.{Tables, tables}
+use Rattle.tables.specs.Meaning.{packetAt, queueAt, clientAt, clientsOf, stockAt, stocksOf, orderOf, sideOf, stateOf, coreOf}
 use Rattle.tables.specs.Invariant.{Shape, SoundCore, Valid}
 use Rattle.tables.specs.Numbers.{firstFailed, refusal}
 use Rattle.tables.specs.Promise.{Meets}
+use Rattle.tables.specs.Counting.{Counts}
 use Rattle.tables.specs.Places.{mayWrite, Promised}
 
 -- no check has the number 0
@@ -178,15 +180,52 @@ module _ (call : Event) (k : Checking call) (c : Control) (t : Tables) (valid : 
         → d .opened ≡ true → stateOf d u ≡ k .made (stateOf c t) → Shape d u → Meets call c t r u
     accepted-with r d u e o same shape = rw e (accepted-meets d u o same shape)
 
+-- nothing of this goes by what the counts are, so that it holds with any others
+pub meets-recounted : {call : Event} {c : Control} {t : Tables} {r : Answered} {u : Tables} {counts : List ℕ}
+    → length counts ≡ length (u .counts)
+    → Meets call c t r u
+    → Meets call c t r (tables (u .terms) (u .stocks) (u .handles) (u .lengths) (u .links) counts)
+unfolding coreOf stateOf clientsOf clientAt sideOf orderOf stocksOf stockAt queueAt packetAt
+meets-recounted e m = record {
+  answer = m .answer;
+  core = m .core;
+  valid = λ o.
+      let old = m .valid o .shape in record {
+        shape = record {
+          sizes = record {
+            terms = old .sizes .terms;
+            stocks = old .sizes .stocks;
+            handles = old .sizes .handles;
+            lengths = old .sizes .lengths;
+            counts = e ∙ old .sizes .counts;
+          };
+          heads = old .heads;
+          waits = old .waits;
+          apart = old .apart;
+          ratesHeld = old .ratesHeld;
+          sound = old .sound;
+          order = old .order;
+          ordered = old .ordered;
+          placed = old .placed;
+        };
+        limits = m .valid o .limits;
+      };
+}
+
 -- a call that writes no place
 pub in-place : {call : Event} {c : Control} {t u : Tables} {r : Answered} → u .handles ≡ t .handles → u .lengths ≡ t .lengths
-    → Meets call c t r u → Promised call c t r u
-in-place handles lengths m = record { meets = m; stand = λ none. record { handles = handles; lengths = lengths } }
+    → Counts call c t r u → Meets call c t r u → Promised call c t r u
+in-place handles lengths counts m = record {
+  meets = m;
+  stand = λ none. record { handles = handles; lengths = lengths };
+  counts = counts;
+}
 
 -- and one that does, once it is accepted
 pub with-places : {call : Event} {c d : Control} {t u : Tables} {r : Answered} → r ≡ record { control = d; answer = Accepted }
-    → mayWrite call Accepted ≡ true → Meets call c t r u → Promised call c t r u
-with-places {call} e some m = record {
+    → mayWrite call Accepted ≡ true → Counts call c t r u → Meets call c t r u → Promised call c t r u
+with-places {call} e some counts m = record {
   meets = m;
   stand = λ none. true-false (ap (λ (x : Answered). mayWrite call (x .answer)) e ∙ some) none;
+  counts = counts;
 }

@@ -29,7 +29,7 @@ use Rattle.tables.specs.CallsFrom as callsFrom
 use Rattle.tables.proofs.Promises.{coreOf-opened}
 use Rattle.tables.proofs.DefinedCalls.{from-core, from-trace}
 
-runs : Core → Bool
+unfoldable pub runs : Core → Bool
 runs unopened = false
 runs (running s) = true
 

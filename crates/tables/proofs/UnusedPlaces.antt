@@ -15,6 +15,7 @@ use Rattle.definitions.specs.declared.Answer.the-variants.{Accepted}
 use Rattle.definitions.specs.Sizes.{ids, places}
 use Rattle.definitions.specs.Client.{isIndifferent}
 use Rattle.definitions.specs.Stock.{bare}
+use Rattle.definitions.specs.Counts.{zeros}
 use Rattle.definitions.specs.State.{Core, unopened, running, fresh}
 use Rattle.definitions.specs.Checks.{Result, unchanged, openChecks, rates}
 use Rattle.definitions.specs.Event.{Event, Open}
@@ -29,16 +30,18 @@ use Rattle.order.specs.Order.{sentinel, Linked, All, Ordered}
 use Rattle.order.specs.Owner.{owner, placesOf}
 use Rattle.order.proofs.DistinctLists.{all-map}
 use Rattle.order.proofs.OrderWalk.{ordered-walked}
+use Rattle.counts.specs.CountTable.{countIn}
 use Rattle.tables.specs.declared.Control.{Control}
 use Rattle.tables.specs.declared.Answered.{Answered}
 use Rattle.tables.specs.Tables.{Tables, tables, headAt, countAt, ring}
-use Rattle.tables.specs.Meaning.{kindAt, packetAt, queueAt, clientAt, clientsOf, stockAt, stocksOf, orderOf, sideOf, stateOf, coreOf}
+use Rattle.tables.specs.Meaning.{kindAt, packetAt, queueAt, clientAt, clientsOf, stockAt, stocksOf, orderOf, sideOf, stateOf, coreOf, countsOf, wholeOf}
 use Rattle.tables.specs.Invariant.{Shape, Valid}
 use Rattle.tables.specs.Promise.{Meets}
 use Rattle.tables.specs.Run.{callsOf}
 use Rattle.tables.specs.Unused.{waitingPlaces, SameLinks, SamePlace, SameWhereWaiting, DifferUnused, Unused, overwritten}
 use Rattle.tables.specs.CallsFrom.{CallsFrom}
 use Rattle.tables.specs.Unseen.{Indistinct, Laid, UnusedUnseen}
+use Rattle.tables.proofs.RunCounts.{counts-alike}
 use Rattle.tables.proofs.DefinedCalls.{from-core, from-trace}
 use Rattle.tables.proofs.Fields.{places-positive, ring-length}
 use Rattle.tables.proofs.QueueRing.{packets-same}
@@ -243,7 +246,7 @@ fresh-after {threshold} {discipline} {seed} {c} {d} {t} {u} m n accepts =
 
 -- the same tables with other handles and lengths
 abbrev pub rewritten : Tables → List ℕ → List ℕ → Tables
-rewritten t handles lengths = tables (t .terms) (t .stocks) handles lengths (t .links)
+rewritten t handles lengths = tables (t .terms) (t .stocks) handles lengths (t .links) (t .counts)
 
 module _ (t : Tables) (handles lengths : List ℕ) where
   pub rewritten-place : (p : ℕ) → getD handles p 0 ≡ getD (t .handles) p 0 → getD lengths p 0 ≡ getD (t .lengths) p 0
@@ -263,6 +266,7 @@ module _ (t : Tables) (handles lengths : List ℕ) where
     waiting = λ id below. refl;
     places = same;
     ends = record { next = refl; prev = refl };
+    counts = refl;
   }
 
   pub rewritten-laid : {c : Control} → Shape c t → length handles ≡ length (t .handles) → length lengths ≡ length (t .lengths)
@@ -273,6 +277,7 @@ module _ (t : Tables) (handles lengths : List ℕ) where
       stocks = shape .sizes .stocks;
       handles = e ∙ shape .sizes .handles;
       lengths = f ∙ shape .sizes .lengths;
+      counts = shape .sizes .counts;
     };
     heads = shape .heads;
     sound = shape .sound;
@@ -292,6 +297,18 @@ module _ (t : Tables) (place handle length : ℕ) (unused : Unused t place) wher
       (λ id below.
       all-map (λ p. place ≢ p) (SamePlace t (overwritten t place handle length)) place-kept (waitingPlaces t id) (unused id below))
 
+pub whole-same : (c : Control) (t u : Tables) → Valid c t → DifferUnused c t u → wholeOf c u ≡ wholeOf c t
+unfolding countsOf
+whole-same c t u valid differ = λ i. record { core = core-same c t u valid differ i; counts = λ id. same id i }
+  where
+    same : (id : ℕ) → countsOf c u id ≡ countsOf c t id
+    same id = go (c .opened) refl
+      where
+        go : (b : Bool) → c .opened ≡ b
+            → cond (b && ltb id ids) (countIn (u .counts) id) zeros ≡ cond (b && ltb id ids) (countIn (t .counts) id) zeros
+        go true o = rw (differ o .counts)
+        go false o = refl
+
 pub unused-unseen : UnusedUnseen
 unused-unseen = record {
   indistinct = λ c t u valid differ. indistinct (core-same c t u valid differ);
@@ -302,5 +319,6 @@ unused-unseen = record {
         valid-same c t (overwritten t place handle length) valid differ
             (λ e. rewritten-laid t _ _ (valid e .shape) (length-set (t .handles) place handle) (length-set (t .lengths) place length)),
       );
+  counts = λ {c} {t = t} {u} valid differ. counts-alike (whole-same c t u valid differ);
   opened = λ m n e. indistinct (fresh-after m n e ∙ sym (fresh-after m m e));
 }

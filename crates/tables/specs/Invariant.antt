@@ -12,6 +12,7 @@ use Rattle.definitions.specs.Limits.{StateLimits}
 use Rattle.marks.specs.Marks.{marked}
 use Rattle.order.specs.Order.{Sound, Ordered}
 use Rattle.order.specs.Owner.{placesOf}
+use Rattle.counts.specs.CountTable.{countColumns}
 use Rattle.tables.specs.declared.Control.{Control}
 use Rattle.tables.specs.Tables.{Tables, termColumns, stockColumns, headAt, countAt, ring}
 use Rattle.tables.specs.Meaning.{kindAt, clientsOf, stateOf}
@@ -22,6 +23,7 @@ pub record Sized (t : Tables) : Type 0 where
   pub stocks : length (t .stocks) ≡ stockColumns * ids
   pub handles : length (t .handles) ≡ ids * places
   pub lengths : length (t .lengths) ≡ ids * places
+  pub counts : length (t .counts) ≡ countColumns * ids
 
 -- how the tables are laid out, apart from what they mean
 pub record Shape (c : Control) (t : Tables) : Type 0 where

@@ -6,10 +6,12 @@ pub mod Meaning
 pub mod Invariant
 pub mod Numbers
 pub mod Promise
+pub mod Counting
 pub mod Run
 pub mod RunSheets
 pub mod CallsFrom
 pub mod CodeStretch
 pub mod Places
+pub mod CodeCounts
 pub mod Unused
 pub mod Unseen

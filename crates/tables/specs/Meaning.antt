@@ -1,7 +1,7 @@
 -- What control and tables mean: a state of the definitions. Where a queue begins, what its unused places hold and how the
--- order is linked do not show in it.
+-- order is linked do not show in it, and neither do the counts: they are what `countsOf` says, beside the state.
 use Prim.Native.Nat.{ℕ}
-use mathlib.Core.Bool.{cond}
+use mathlib.Core.Bool.{cond, _&&_}
 use mathlib.Core.List.{List, map}
 use lib.Dec.{ltb}
 use lib.ListN.{getD}
@@ -9,7 +9,9 @@ use Rattle.definitions.specs.declared.Packet.{Packet}
 use Rattle.definitions.specs.Sizes.{ids}
 use Rattle.definitions.specs.Client.{Kind, absent, indifferent, private, Client, nobody}
 use Rattle.definitions.specs.Stock.{Stock, bare}
+use Rattle.definitions.specs.Counts.{Tally, zeros, Whole}
 use Rattle.definitions.specs.State.{Side, State, Core, unopened, running}
+use Rattle.counts.specs.CountTable.{countIn}
 use Rattle.marks.specs.Marks.{marked}
 use Rattle.order.specs.Order.{sentinel, nextOf, walked}
 use Rattle.order.specs.Owner.{owner}
@@ -58,3 +60,11 @@ stateOf c t = record {
 
 unfoldable pub coreOf : Control → Tables → Core
 coreOf c t = cond (c .opened) (running (stateOf c t)) unopened
+
+-- the sheets of all ids: before any accepted open, and of what is no id, all zeros
+unfoldable pub countsOf : Control → Tables → ℕ → Tally
+countsOf c t id = cond (c .opened && ltb id ids) (countIn (t .counts) id) zeros
+
+-- all that a call may change: the core, and the counts beside it
+abbrev pub wholeOf : Control → Tables → Whole
+wholeOf c t = record { core = coreOf c t; counts = countsOf c t }

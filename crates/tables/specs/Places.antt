@@ -11,6 +11,7 @@ use Rattle.tables.specs.declared.Control.{Control}
 use Rattle.tables.specs.declared.Answered.{Answered}
 use Rattle.tables.specs.Tables.{Tables}
 use Rattle.tables.specs.Promise.{Meets}
+use Rattle.tables.specs.Counting.{Counts}
 use Rattle.tables.specs.CallsFrom.{CallsFrom}
 
 -- "all handles and lengths stand"
@@ -28,10 +29,11 @@ mayWrite (Load id dummies) answer = false
 mayWrite (Arrive id packet) answer = isAccepted answer
 mayWrite Tick answer = false
 
--- the contract of every call: it is met, and the places stand unless it may write them
+-- the contract of every call: it is met, the places stand unless it may write them, and the counts are what it makes of them
 pub record Promised (call : Event) (c : Control) (t : Tables) (r : Answered) (u : Tables) : Type 0 where
   pub meets : Meets call c t r u
   pub stand : mayWrite call (r .answer) ≡ false → PlacesStand t u
+  pub counts : Counts call c t r u
 
 -- whether any call of a trace may write places
 unfoldable pub mayHaveWritten : Trace → Bool

@@ -1,6 +1,6 @@
 -- The tables of the core (paper 01: "an array .. of handles and one of lengths, filled at opening"), with an entry for each place
 -- of each id. What a client has once, its terms, is one table, and what it has to send, its stock, is another; each has several
--- numbers for each id, one column after the other.
+-- numbers for each id, one column after the other. The counts of the ids lie as crates/counts says.
 use Prim.Native.Nat.{ℕ, zero, suc, _+_, _*_, _%_}
 use mathlib.Core.List.{List, [], _∷_}
 use lib.ListN.{getD, set}
@@ -12,14 +12,16 @@ pub record Tables : Type 0 where
   pub handles : List ℕ
   pub lengths : List ℕ
   pub links : List ℕ
+  pub counts : List ℕ
 
-abbrev pub tables : List ℕ → List ℕ → List ℕ → List ℕ → List ℕ → Tables
-tables terms stocks handles lengths links = record {
+abbrev pub tables : List ℕ → List ℕ → List ℕ → List ℕ → List ℕ → List ℕ → Tables
+tables terms stocks handles lengths links counts = record {
   terms = terms;
   stocks = stocks;
   handles = handles;
   lengths = lengths;
   links = links;
+  counts = counts;
 }
 
 -- the columns of the terms: rate, burst and level

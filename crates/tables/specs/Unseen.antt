@@ -13,9 +13,10 @@ use Rattle.order.specs.Order.{Sound}
 use Rattle.tables.specs.declared.Control.{Control}
 use Rattle.tables.specs.declared.Answered.{Answered}
 use Rattle.tables.specs.Tables.{Tables, headAt}
-use Rattle.tables.specs.Meaning.{coreOf}
+use Rattle.tables.specs.Meaning.{coreOf, countsOf}
 use Rattle.tables.specs.Invariant.{Sized, Valid}
 use Rattle.tables.specs.Promise.{Meets}
+use Rattle.tables.specs.Places.{Promised}
 use Rattle.tables.specs.Run.{callsOf}
 use Rattle.tables.specs.CallsFrom.{CallsFrom}
 use Rattle.tables.specs.Unused.{DifferUnused, Unused, overwritten}
@@ -49,6 +50,12 @@ pub record UnusedUnseen : Type 0 where
       → Valid c t
       → Unused t place
       → DifferUnused c t (overwritten t place handle length) × Valid c (overwritten t place handle length)
+  -- nor do the counts tell them apart, whatever is called on both
+  pub counts : {c e f : Control} {t u v w : Tables} {first second : Trace} → Valid c t → DifferUnused c t u
+      → CallsFrom Promised c t first e v
+      → CallsFrom Promised c u second f w
+      → callsOf second ≡ callsOf first
+      → countsOf f w ≡ countsOf e v
   -- whatever two cores were, and whatever their tables hold: the same open, if it is accepted, leaves nothing to tell them apart
   pub opened : {threshold discipline seed : ℕ} {c d : Control} {t u v w : Tables} {r q : Answered}
       → Meets (Open threshold discipline seed) c t r v

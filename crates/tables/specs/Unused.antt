@@ -33,6 +33,7 @@ pub record SameWhereWaiting (t u : Tables) : Type 0 where
   pub waiting : (id : ℕ) → id < ids → waitingPlaces u id ≡ waitingPlaces t id
   pub places : (id : ℕ) → id < ids → All (SamePlace t u) (waitingPlaces t id)
   pub ends : SameLinks t u sentinel
+  pub counts : u .counts ≡ t .counts
 
 -- Two cores of one control. Before any accepted open no packet waits, whatever the tables hold.
 abbrev pub DifferUnused : Control → Tables → Tables → Type 0
@@ -46,3 +47,4 @@ Unused t place = (id : ℕ) → id < ids → Absent place (waitingPlaces t id)
 abbrev pub overwritten : Tables → ℕ → ℕ → ℕ → Tables
 overwritten t place handle length =
     tables (t .terms) (t .stocks) (set (t .handles) place handle) (set (t .lengths) place length) (t .links)
+    (t .counts)

@@ -60,7 +60,7 @@ countedStocks t id = written (t .stocks) countColumn id (countAt (t .stocks) id 
 abbrev pub arrivedTables : Control → Tables → ℕ → Packet → List ℕ → Tables
 arrivedTables c t id p links =
     tables (chargedTerms c t id) (countedStocks t id) (set (t .handles) (freePlace t id) (p .handle))
-    (set (t .lengths) (freePlace t id) (p .length)) links
+    (set (t .lengths) (freePlace t id) (p .length)) links (t .counts)
 
 -- what the links after say: an indifferent client's packet is the last
 pub record Lined (c : Control) (t : Tables) (id : ℕ) (old links : List ℕ) : Type 0 where
@@ -191,6 +191,7 @@ module _ (c : Control) (t : Tables) (old : Shape c t) (id : ℕ) (p : Packet) (b
       stocks = length-set (t .stocks) _ _ ∙ old .sizes .stocks;
       handles = length-set (t .handles) _ _ ∙ old .sizes .handles;
       lengths = length-set (t .lengths) _ _ ∙ old .sizes .lengths;
+      counts = old .sizes .counts;
     };
     onlyTerms = cond-both (OnlyAt id (t .terms)) indifferent
         (only-set (t .terms) (t .terms) levelColumn id _ below (λ column j l other. refl)) (λ column j l other. refl);

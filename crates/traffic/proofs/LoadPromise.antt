@@ -1,9 +1,10 @@
 -- A load keeps its promise: one number of the stocks is raised, the pool of the id, and no client is touched. Assumes nothing.
 use Prim.Native.Nat.{ℕ, _+_, _≤_, _<_}
-use mathlib.Core.Path.{_≡_, sym, ap, _∙_}
+use mathlib.Core.Path.{_≡_, refl, sym, ap, _∙_}
 use mathlib.Core.Logic.{_≢_}
 use borrow.Author.Tests.{lt-ltb, ltb-true, leb-true}
 use Rattle.definitions.specs.Event.{Load}
+use Rattle.definitions.specs.Counts.{entryOfAccepted, entryOfRefused, entryOf}
 use Rattle.definitions.specs.declared.Answer.the-variants.{Accepted, Refused}
 use Rattle.definitions.specs.Sizes.{ids, poolLimit}
 use Rattle.definitions.specs.Stock.{Stock, loaded}
@@ -17,6 +18,8 @@ use Rattle.tables.specs.Meaning.{queueAt, clientAt, clientsOf, stockAt, stocksO
 use Rattle.tables.specs.Invariant.{Shape, SoundCore, Valid}
 use Rattle.tables.specs.Numbers.{refusal}
 use Rattle.tables.specs.Promise.{Meets}
+use Rattle.tables.specs.Counting.{Counts}
+use Rattle.tables.proofs.Countings.{counts-kept, counts-refused}
 use Rattle.tables.proofs.Promises.{refused-with, opened, all-passed, sound-before, accepted-with}
 use Rattle.tables.proofs.Checkings.{loads}
 use Rattle.tables.proofs.Touch.{stock-own}
@@ -54,6 +57,16 @@ module _ (c : Control) (t : Tables) (valid : Valid c t) (id dummies : ℕ) where
       → n ≡ refusal c t (λ s. loadChecks s id dummies) → n ≢ 0 → Meets (Load id dummies) c t r t
   unfolding loads
   load-refused = refused-with (Load id dummies) (loads id dummies) c t valid
+
+  -- whatever it gets, it enters nothing
+  pub load-refused-counts : (r : Answered) (n : ℕ) → r ≡ record { control = c; answer = Refused n } → Counts (Load id dummies) c t r t
+  unfolding entryOfRefused
+  load-refused-counts r n e = counts-refused n e refl (λ j indifferent waiting. refl)
+
+  pub load-counts : (r : Answered) → r ≡ record { control = c; answer = Accepted }
+      → Counts (Load id dummies) c t r (loadedTables t id dummies)
+  unfolding entryOf entryOfAccepted
+  load-counts r e = counts-kept (ap (λ (x : Answered). x .control .opened) e) refl (λ j. rw e)
 
   module _ (none : refusal c t (λ s. loadChecks s id dummies) ≡ 0) where
     passed : Passed (loadChecks (stateOf c t) id dummies)

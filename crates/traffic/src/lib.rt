@@ -1,4 +1,6 @@
 // What comes in for a client: dummies for a private pool, and packets.
+use counts::ACCEPTED;
+use counts::COUNTS;
 use definitions::LONGEST;
 use definitions::PLACES;
 use definitions::POOL_LIMIT;
@@ -29,8 +31,8 @@ ghost use Rattle.tables.specs.Places.{Promised};
 
 // The number that a load is refused with: 19, 4, 5, 11, 12.
 fn load_number(control: Control, stocks: &[u32; STOCKS], id: u32, dummies: u32) -> u32
-    ensures { λ r. ⌜ ((terms handles lengths links : List ℕ)
-        → r ≡ refusal control (tables terms (now (stocks .entry)) handles lengths links) (λ s. loadChecks s id dummies)) ⌝ }
+    ensures { λ r. ⌜ ((terms handles lengths links counts : List ℕ)
+        → r ≡ refusal control (tables terms (now (stocks .entry)) handles lengths links counts) (λ s. loadChecks s id dummies)) ⌝ }
 {
     let number = tables::active_number(control, id);
     if number != 0 {
@@ -53,13 +55,16 @@ pub fn load(
     handles: &[u64; STORE],
     lengths: &[u16; STORE],
     links: &[u32; LINKS],
+    counts: &[u64; COUNTS],
     id: u32,
     dummies: u32,
 ) -> Answered
-    requires { ⌜ Valid control (tables (now terms) (now stocks) (now handles) (now lengths) (now links)) ⌝ }
+    requires { ⌜ Valid control (tables (now terms) (now stocks) (now handles) (now lengths) (now links) (now counts)) ⌝ }
     ensures { λ r. ⌜ Promised (Load id dummies) control
-        (tables (now (terms .entry)) (now (stocks .entry)) (now (handles .entry)) (now (lengths .entry)) (now (links .entry))) r
-        (tables (now (terms .exit)) (now (stocks .exit)) (now (handles .exit)) (now (lengths .exit)) (now (links .exit))) ⌝ }
+        (tables (now (terms .entry)) (now (stocks .entry)) (now (handles .entry)) (now (lengths .entry)) (now (links .entry))
+        (now (counts .entry))) r
+        (tables (now (terms .exit)) (now (stocks .exit)) (now (handles .exit)) (now (lengths .exit)) (now (links .exit))
+        (now (counts .exit))) ⌝ }
 {
     let number = load_number(control, stocks, id, dummies);
     if number != 0 {
@@ -78,8 +83,8 @@ fn arrive_number(
     id: u32,
     packet: Packet,
 ) -> u32
-    ensures { λ r. ⌜ ((handles lengths links : List ℕ)
-        → r ≡ refusal control (tables (now (terms .entry)) (now (stocks .entry)) handles lengths links)
+    ensures { λ r. ⌜ ((handles lengths links counts : List ℕ)
+        → r ≡ refusal control (tables (now (terms .entry)) (now (stocks .entry)) handles lengths links counts)
         (λ s. arriveChecks s id packet)) ⌝ }
 {
     let number = tables::active_number(control, id);
@@ -146,7 +151,7 @@ fn charge(terms: &mut [u32; TERMS], id: u32)
 }
 
 // Puts a packet last in its client's queue (paper 01, "Arrive"). Refused: 19, 4, 5, 13, 14, 15.
-// It costs the same however many packets wait.
+// It costs the same however many packets wait. A refusal with 14 or 15 changes its own count and nothing else.
 pub fn arrive(
     control: Control,
     terms: &mut [u32; TERMS],
@@ -154,16 +159,20 @@ pub fn arrive(
     handles: &mut [u64; STORE],
     lengths: &mut [u16; STORE],
     links: &mut [u32; LINKS],
+    counts: &mut [u64; COUNTS],
     id: u32,
     packet: Packet,
 ) -> Answered
-    requires { ⌜ Valid control (tables (now terms) (now stocks) (now handles) (now lengths) (now links)) ⌝ }
+    requires { ⌜ Valid control (tables (now terms) (now stocks) (now handles) (now lengths) (now links) (now counts)) ⌝ }
     ensures { λ r. ⌜ Promised (Arrive id packet) control
-        (tables (now (terms .entry)) (now (stocks .entry)) (now (handles .entry)) (now (lengths .entry)) (now (links .entry))) r
-        (tables (now (terms .exit)) (now (stocks .exit)) (now (handles .exit)) (now (lengths .exit)) (now (links .exit))) ⌝ }
+        (tables (now (terms .entry)) (now (stocks .entry)) (now (handles .entry)) (now (lengths .entry)) (now (links .entry))
+        (now (counts .entry))) r
+        (tables (now (terms .exit)) (now (stocks .exit)) (now (handles .exit)) (now (lengths .exit)) (now (links .exit))
+        (now (counts .exit))) ⌝ }
 {
     let number = arrive_number(control, terms, stocks, id, packet);
     if number != 0 {
+        counts::drop(counts, id, number);
         return tables::refused(control, number);
     }
     let place = free_place(stocks, id);
@@ -175,5 +184,6 @@ pub fn arrive(
     }
     let mut after = control;
     after.waiting = marks::mark(control.waiting, id);
+    counts::raise(counts, id, ACCEPTED, 1);
     tables::accepted(after)
 }

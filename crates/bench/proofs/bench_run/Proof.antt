@@ -27,23 +27,26 @@ unopened-requires : tie.Need-unopened-requires
 unopened-requires c κs = search needs
 
 open-requires : tie.Need-open-requires
-open-requires c κs = c .before .before .before .before .before .unopened .ensures _ .1
+open-requires c κs = c .before .before .before .before .before .before .unopened .ensures _ .1
 
 choose-requires : tie.Need-choose-requires
 choose-requires c κs = search needs
 
 run-stages-requires : tie.Need-run-stages-requires
 unfolding ids
-run-stages-requires c κs = search needs
+run-stages-requires c κs =
+    let opened = c .before .before .before .before .before .before .before in
+    let begun = opened .before .before .before .before .before .before .before .before .before in
+    (opened .before .«open» .ensures .meets .valid, omega (arith, begun .before .before .if3 .left), omega arith)
 
 returns-6 : tie.Need-returns-6
 returns-6 c = search needs
 
 refused-rounds-requires : tie.Need-refused-rounds-requires
 refused-rounds-requires c κs =
-    let served = c .before .before .before .before .before .before in
-    let opened = served .before .before .before .before .before .before .before in
-    let begun = opened .before .before .before .before .before .before .before .before in
+    let served = c .before .before .before .before .before .before .before in
+    let opened = served .before .before .before .before .before .before .before .before in
+    let begun = opened .before .before .before .before .before .before .before .before .before in
     (served .run-stages .ensures, omega (arith, begun .before .before .if3 .left), omega (arith, begun .if5 .left))
 
 returns-7 : tie.Need-returns-7

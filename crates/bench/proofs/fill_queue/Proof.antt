@@ -7,11 +7,11 @@ use Rattle.bench.proofs.fill_queue.Statement.{statement}
 use Rattle.bench.proofs.fill_queue.Tie as tie
 
 abbrev Inv-loop : tie.InvT-loop
-Inv-loop terms₀ stocks₀ handles₀ lengths₀ links₀ id each at₀ k₀ terms stocks handles lengths links at k =
-    Valid at (tables terms stocks handles lengths links) × (k ≤ each)
+Inv-loop terms₀ stocks₀ handles₀ lengths₀ links₀ counts₀ id each at₀ k₀ terms stocks handles lengths links counts at k =
+    Valid at (tables terms stocks handles lengths links counts) × (k ≤ each)
 
 abbrev μ-loop : tie.MeasureT-loop
-μ-loop terms₀ stocks₀ handles₀ lengths₀ links₀ id each at₀ k₀ terms stocks handles lengths links at k = each - k
+μ-loop terms₀ stocks₀ handles₀ lengths₀ links₀ counts₀ id each at₀ k₀ terms stocks handles lengths links counts at k = each - k
 
 loop-holds : tie.Need-loop-holds Inv-loop μ-loop
 loop-holds c = search needs

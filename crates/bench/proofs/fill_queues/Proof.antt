@@ -7,11 +7,11 @@ use Rattle.bench.proofs.fill_queues.Statement.{statement}
 use Rattle.bench.proofs.fill_queues.Tie as tie
 
 abbrev Inv-loop : tie.InvT-loop
-Inv-loop terms₀ stocks₀ handles₀ lengths₀ links₀ n each at₀ id₀ terms stocks handles lengths links at id =
-    Valid at (tables terms stocks handles lengths links) × (id ≤ n)
+Inv-loop terms₀ stocks₀ handles₀ lengths₀ links₀ counts₀ n each at₀ id₀ terms stocks handles lengths links counts at id =
+    Valid at (tables terms stocks handles lengths links counts) × (id ≤ n)
 
 abbrev μ-loop : tie.MeasureT-loop
-μ-loop terms₀ stocks₀ handles₀ lengths₀ links₀ n each at₀ id₀ terms stocks handles lengths links at id = n - id
+μ-loop terms₀ stocks₀ handles₀ lengths₀ links₀ counts₀ n each at₀ id₀ terms stocks handles lengths links counts at id = n - id
 
 loop-holds : tie.Need-loop-holds Inv-loop μ-loop
 loop-holds c = search needs

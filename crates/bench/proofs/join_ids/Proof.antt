@@ -7,11 +7,11 @@ use Rattle.bench.proofs.join_ids.Statement.{statement}
 use Rattle.bench.proofs.join_ids.Tie as tie
 
 abbrev Inv-loop : tie.InvT-loop
-Inv-loop terms₀ stocks₀ handles lengths links first end kind rate burst at₀ id₀ terms stocks at id =
-    Valid at (tables terms stocks handles lengths links)
+Inv-loop terms₀ stocks₀ handles lengths links counts₀ first end kind rate burst at₀ id₀ terms stocks counts at id =
+    Valid at (tables terms stocks handles lengths links counts)
 
 abbrev μ-loop : tie.MeasureT-loop
-μ-loop terms₀ stocks₀ handles lengths links first end kind rate burst at₀ id₀ terms stocks at id = end - id
+μ-loop terms₀ stocks₀ handles lengths links counts₀ first end kind rate burst at₀ id₀ terms stocks counts at id = end - id
 
 loop-holds : tie.Need-loop-holds Inv-loop μ-loop
 loop-holds c = search needs

@@ -7,11 +7,12 @@ use Rattle.bench.proofs.refused_rounds.Statement.{statement}
 use Rattle.bench.proofs.refused_rounds.Tie as tie
 
 abbrev Inv-loop : tie.InvT-loop
-Inv-loop terms₀ stocks₀ handles₀ lengths₀ links₀ n beyond rounds at₀ id₀ k₀ terms stocks handles lengths links at id k =
-    Valid (at .control) (tables terms stocks handles lengths links) × (id < n) × (k ≤ rounds)
+Inv-loop terms₀ stocks₀ handles₀ lengths₀ links₀ counts₀ n beyond rounds at₀ id₀ k₀ terms stocks handles lengths links counts at id k =
+    Valid (at .control) (tables terms stocks handles lengths links counts) × (id < n) × (k ≤ rounds)
 
 abbrev μ-loop : tie.MeasureT-loop
-μ-loop terms₀ stocks₀ handles₀ lengths₀ links₀ n beyond rounds at₀ id₀ k₀ terms stocks handles lengths links at id k = rounds - k
+μ-loop terms₀ stocks₀ handles₀ lengths₀ links₀ counts₀ n beyond rounds at₀ id₀ k₀ terms stocks handles lengths links counts at id k
+    = rounds - k
 
 loop-holds : tie.Need-loop-holds Inv-loop μ-loop
 loop-holds c = search needs

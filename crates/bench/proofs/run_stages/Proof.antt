@@ -7,11 +7,12 @@ use Rattle.bench.proofs.run_stages.Statement.{statement}
 use Rattle.bench.proofs.run_stages.Tie as tie
 
 abbrev Inv-loop : tie.InvT-loop
-Inv-loop terms₀ stocks₀ handles₀ lengths₀ links₀ n indifferents each rounds at₀ k₀ terms stocks handles lengths links at k =
-    Valid (at .control) (tables terms stocks handles lengths links) × (k ≤ 2)
+Inv-loop terms₀ stocks₀ handles₀ lengths₀ links₀ counts₀ n indifferents each rounds at₀ k₀ terms stocks handles lengths links counts at k =
+    Valid (at .control) (tables terms stocks handles lengths links counts) × (k ≤ 2)
 
 abbrev μ-loop : tie.MeasureT-loop
-μ-loop terms₀ stocks₀ handles₀ lengths₀ links₀ n indifferents each rounds at₀ k₀ terms stocks handles lengths links at k = 2 - k
+μ-loop terms₀ stocks₀ handles₀ lengths₀ links₀ counts₀ n indifferents each rounds at₀ k₀ terms stocks handles lengths links counts
+    at k = 2 - k
 
 loop-holds : tie.Need-loop-holds Inv-loop μ-loop
 loop-holds c = search needs

@@ -7,7 +7,7 @@ unopened-requires : tie.Need-unopened-requires
 unopened-requires c κs = search needs
 
 open-requires : tie.Need-open-requires
-open-requires c κs = c .before .before .before .before .before .unopened .ensures _ .1
+open-requires c κs = c .before .before .before .before .before .before .unopened .ensures _ .1
 
 returns : tie.Need-returns
 returns c = search needs

@@ -7,11 +7,11 @@ use Rattle.emptying.proofs.change_ids.Statement.{statement}
 use Rattle.emptying.proofs.change_ids.Tie as tie
 
 abbrev Inv-loop : tie.InvT-loop
-Inv-loop terms₀ stocks₀ handles lengths links₀ end plan before at₀ sum₀ id₀ terms stocks links at sum id =
-    Valid at (tables terms stocks handles lengths links)
+Inv-loop terms₀ stocks₀ handles lengths links₀ counts₀ end plan before at₀ sum₀ id₀ terms stocks links counts at sum id =
+    Valid at (tables terms stocks handles lengths links counts)
 
 abbrev μ-loop : tie.MeasureT-loop
-μ-loop terms₀ stocks₀ handles lengths links₀ end plan before at₀ sum₀ id₀ terms stocks links at sum id = end - id
+μ-loop terms₀ stocks₀ handles lengths links₀ counts₀ end plan before at₀ sum₀ id₀ terms stocks links counts at sum id = end - id
 
 loop-holds : tie.Need-loop-holds Inv-loop μ-loop
 loop-holds c = search needs

@@ -7,13 +7,15 @@ use Rattle.emptying.proofs.empty_rounds.Statement.{statement}
 use Rattle.emptying.proofs.empty_rounds.Tie as tie
 
 abbrev Inv-loop : tie.InvT-loop
-Inv-loop control terms₀ stocks₀ handles lengths links₀ end plan rounds kept-terms kept-stocks kept-links at₀ k₀ terms stocks links at k =
-    Valid (at .control) (tables terms stocks handles lengths links)
-    × Valid control (tables kept-terms kept-stocks handles lengths kept-links)
+Inv-loop control terms₀ stocks₀ handles lengths links₀ counts₀ end plan rounds kept-terms kept-stocks kept-links kept-counts at₀ k₀
+    terms stocks links counts at k =
+    Valid (at .control) (tables terms stocks handles lengths links counts)
+    × Valid control (tables kept-terms kept-stocks handles lengths kept-links kept-counts)
     × (k ≤ rounds)
 
 abbrev μ-loop : tie.MeasureT-loop
-μ-loop control terms₀ stocks₀ handles lengths links₀ end plan rounds kept-terms kept-stocks kept-links at₀ k₀ terms stocks links at k = rounds - k
+μ-loop control terms₀ stocks₀ handles lengths links₀ counts₀ end plan rounds kept-terms kept-stocks kept-links kept-counts at₀ k₀
+    terms stocks links counts at k = rounds - k
 
 loop-holds : tie.Need-loop-holds Inv-loop μ-loop
 loop-holds c = search needs

@@ -7,11 +7,11 @@ use Rattle.emptying.proofs.open_rounds.Statement.{statement}
 use Rattle.emptying.proofs.open_rounds.Tie as tie
 
 abbrev Inv-loop : tie.InvT-loop
-Inv-loop terms₀ stocks₀ handles₀ lengths₀ links₀ rounds at₀ sum₀ k₀ terms stocks handles lengths links at sum k =
-    Valid at (tables terms stocks handles lengths links) × (k ≤ rounds)
+Inv-loop terms₀ stocks₀ handles₀ lengths₀ links₀ counts₀ rounds at₀ sum₀ k₀ terms stocks handles lengths links counts at sum k =
+    Valid at (tables terms stocks handles lengths links counts) × (k ≤ rounds)
 
 abbrev μ-loop : tie.MeasureT-loop
-μ-loop terms₀ stocks₀ handles₀ lengths₀ links₀ rounds at₀ sum₀ k₀ terms stocks handles lengths links at sum k = rounds - k
+μ-loop terms₀ stocks₀ handles₀ lengths₀ links₀ counts₀ rounds at₀ sum₀ k₀ terms stocks handles lengths links counts at sum k = rounds - k
 
 loop-holds : tie.Need-loop-holds Inv-loop μ-loop
 loop-holds c = search needs

@@ -1,7 +1,6 @@
--- `forecast::forecast` meets its contract: without room for a line nothing is done, of a text that is too long the start has
--- written the line, and else it is the line of the core behind the text. Assumes nothing.
+-- `forecast::forecast` meets its contract: without room for a line nothing is done, of a text that is too long the line is written, and
+-- else it is the line of the core behind the text. Assumes nothing.
 use borrow.Author.Needs.{needs}
-use native.Mathlib.Omega.{arith}
 use Prim.Native.Nat.{_≤_}
 use lib.ListN.{length}
 use Rattle.grammar.specs.Bytes.{textLimit}
@@ -15,14 +14,18 @@ use Rattle.forecast.proofs.forecast.Tie as tie
 room : (c : tie.Else1) → lineRoom ≤ length (c .before .before .before .before .args .out .now)
 room c = roomy (c .before .before .before .before .args .out .now) 0 (c .before .has-room .ensures) (c .if1 .left)
 
+-- the test before a script is carried out
+abbrev first : tie.After-carry-out → tie.Else1
+first c = c .before .before .before .before .before .before .before .before
+
 has-room-requires : tie.Need-has-room-requires
 has-room-requires c κs = search needs
 
 returns : tie.Need-returns
 returns c = told-bare _ _ _ _ (c .before .has-room .ensures) (c .if1 .taken)
 
-start-requires : tie.Need-start-requires
-start-requires c κs = search needs
+carry-out-requires : tie.Need-carry-out-requires
+carry-out-requires c κs = search needs
 
 same-length : tie.Need-same-length
 same-length c = search needs
@@ -31,12 +34,7 @@ returns-2 : tie.Need-returns-2
 unfolding textLimit
 returns-2 c =
     let call = c .before .before .before in
-    told-long _ _ _ _ (room (call .before .before)) _ (search needs) (call .start .ensures) (c .if2 .taken)
-
-carry-out-requires : tie.Need-carry-out-requires
-carry-out-requires c κs =
-    let call = c .before .before .before .before .before .before .before .before .before in
-    (call .start .ensures, omega (arith, room (call .before .before), call .start .kept))
+    told-long _ _ _ _ (room (first call)) (search needs) (call .carry-out .ensures) (c .if2 .taken)
 
 print-line-requires : tie.Need-print-line-requires
 print-line-requires c κs = search needs
@@ -48,14 +46,12 @@ returns-3 : tie.Need-returns-3
 unfolding textLimit
 returns-3 c =
     let last = c .before .before in
-    let carried = last .before .before .before .before .before .before in
-    let test = carried .before .before .before .before .before .before .before in
+    let test = last .before .before .before .before in
     let call = test .before .before .before in
-    told-line _ _ _ _ (room (call .before .before)) (search needs) (test .if2 .left) (carried .carry-out .ensures)
-    (last .print-line .ensures _ _ _ (carried .carry-out .ensures .valid))
+    told-line _ _ _ _ (room (first call)) (search needs) (test .if2 .left) (call .carry-out .ensures)
+    (last .print-line .ensures _ _ _ _ (call .carry-out .ensures .valid))
 
 pub forecast-spec : {M : Type 1} → statement M
 forecast-spec =
     tie.close
-    (tie.spec has-room-requires returns start-requires same-length returns-2 carry-out-requires print-line-requires
-    same-length-2 returns-3)
+    (tie.spec has-room-requires returns carry-out-requires same-length returns-2 print-line-requires same-length-2 returns-3)

@@ -14,12 +14,12 @@ same-length : tie.Need-same-length
 same-length c = search needs
 
 returns : tie.Need-returns
-returns c handles lengths links valid =
+returns c handles lengths links counts valid =
     let call = c .before .before in
     let test = call .before .before in
     let args = test .before .before .before .args in
     line-as
-    (line-unopened (args .control) (tables (args .terms .now) (args .stocks .now) handles lengths links) (args .ticks)
+    (line-unopened (args .control) (tables (args .terms .now) (args .stocks .now) handles lengths links counts) (args .ticks)
     (not-true (args .control .opened) (test .if1 .taken)))
     (call .print-refused .ensures)
 
@@ -33,14 +33,14 @@ same-length-2 : tie.Need-same-length-2
 same-length-2 c = search needs
 
 returns-2 : tie.Need-returns-2
-returns-2 c handles lengths links valid =
+returns-2 c handles lengths links counts valid =
     let call = c .before .before in
     let figure = call .before .before in
     let test = figure .before in
     let args = test .before .before .before .args in
     line-as
-    (line-opened (args .control) (tables (args .terms .now) (args .stocks .now) handles lengths links) (args .ticks)
-    (not-false (args .control .opened) (test .if1 .left)) (figure .sure .ensures handles lengths links valid))
+    (line-opened (args .control) (tables (args .terms .now) (args .stocks .now) handles lengths links counts) (args .ticks)
+    (not-false (args .control .opened) (test .if1 .left)) (figure .sure .ensures handles lengths links counts valid))
     (call .print-sure .ensures)
 
 pub print-line-spec : {M : Type 1} → statement M

@@ -23,9 +23,9 @@ turn-requires c κs = search needs
 returns : tie.Need-returns
 returns c =
     let taken = c .before .before .before .before in
-    let made = taken .before .before .before .before .before .before .before in
+    let made = taken .before .before .before .before .before .before .before .before in
     goes-once _ _ (made .before .draw .ensures) (made .call-in .ensures) (taken .take .ensures)
-    (c .before .level-of .ensures _ _ _ _) (c .turn .ensures)
+    (c .before .level-of .ensures _ _ _ _ _) (c .turn .ensures)
 
 pub call-once-spec : {M : Type 1} → statement M
 call-once-spec =

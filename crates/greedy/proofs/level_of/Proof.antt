@@ -10,7 +10,7 @@ use Rattle.greedy.proofs.level_of.Tie as tie
 
 returns : tie.Need-returns
 unfolding levelIn coreOf
-returns c stocks handles lengths links = rw (not-true (c .before .before .args .control .opened) (c .if1 .taken))
+returns c stocks handles lengths links counts = rw (not-true (c .before .before .args .control .opened) (c .if1 .taken))
 
 add-result : tie.Need-add-result
 add-result c = search needs
@@ -26,7 +26,7 @@ element-copy-out-result c = search needs
 
 returns-2 : tie.Need-returns-2
 unfolding levelIn coreOf stateOf clientsOf clientAt field ids
-returns-2 c stocks handles lengths links =
+returns-2 c stocks handles lengths links counts =
     rw (not-false (c .before .before .before .args .control .opened) (c .before .if1 .left))
 
 pub level-of-spec : {M : Type 1} → statement M

@@ -15,29 +15,29 @@ use Rattle.guarantee.proofs.sure.Statement.{statement}
 use Rattle.guarantee.proofs.sure.Tie as tie
 
 -- behind both tests the figure is what the demand leaves
-left : (c : tie.After-wide) (handles lengths links : List ℕ)
+left : (c : tie.After-wide) (handles lengths links counts : List ℕ)
     → let args = c .before .before .before .before .before .before .args in
-    let t = tables (args .terms .now) (args .stocks .now) handles lengths links in
+    let t = tables (args .terms .now) (args .stocks .now) handles lengths links counts in
     Valid (args .control) t
     → c .wide .result - c .before .demand .result ≡ sure (coreOf (args .control) t) (args .ticks)
-left c handles lengths links valid =
+left c handles lengths links counts valid =
     let test = c .before .before in
     let opened = test .before .before in
     let args = opened .before .before .args in
     ap (λ (n : ℕ). n - c .before .demand .result) (c .wide .ensures .0)
-    ∙ sure-rest (args .control) (tables (args .terms .now) (args .stocks .now) handles lengths links) valid
+    ∙ sure-rest (args .control) (tables (args .terms .now) (args .stocks .now) handles lengths links counts) valid
     (not-false (args .control .opened) (opened .if1 .left)) (args .ticks)
     (test .before .any .ensures) (not-false (test .before .any .result) (test .if2 .left)) (c .before .demand .ensures)
 
 returns : tie.Need-returns
-returns c handles lengths links valid =
+returns c handles lengths links counts valid =
     sure-unopened _ _ _ (not-true (c .before .before .args .control .opened) (c .if1 .taken))
 
 any-requires : tie.Need-any-requires
 any-requires c κs = search needs
 
 returns-2 : tie.Need-returns-2
-returns-2 c handles lengths links valid =
+returns-2 c handles lengths links counts valid =
     let opened = c .before .before in
     let args = opened .before .before .args in
     sure-nobody (args .control) _ valid (not-false (args .control .opened) (opened .if1 .left)) (args .ticks)
@@ -50,7 +50,7 @@ wide-requires : tie.Need-wide-requires
 wide-requires c κs = search needs
 
 returns-3 : tie.Need-returns-3
-returns-3 c handles lengths links valid = omega (arith, left (c .before) handles lengths links valid)
+returns-3 c handles lengths links counts valid = omega (arith, left (c .before) handles lengths links counts valid)
 
 sub-result : tie.Need-sub-result
 sub-result c = search needs

@@ -11,11 +11,12 @@ use Rattle.longrun.proofs.blocks.Statement.{statement}
 use Rattle.longrun.proofs.blocks.Tie as tie
 
 abbrev Inv-loop : tie.InvT-loop
-Inv-loop seed count terms₀ stocks₀ handles₀ lengths₀ links₀ at₀ done₀ terms stocks handles lengths links at done =
-    (done ≤ count) × Goes (done * block) at₀ (tables terms₀ stocks₀ handles₀ lengths₀ links₀) at (tables terms stocks handles lengths links)
+Inv-loop seed count terms₀ stocks₀ handles₀ lengths₀ links₀ counts₀ at₀ done₀ terms stocks handles lengths links counts at done =
+    (done ≤ count)
+    × Goes (done * block) at₀ (tables terms₀ stocks₀ handles₀ lengths₀ links₀ counts₀) at (tables terms stocks handles lengths links counts)
 
 abbrev μ-loop : tie.MeasureT-loop
-μ-loop seed count terms₀ stocks₀ handles₀ lengths₀ links₀ at₀ done₀ terms stocks handles lengths links at done = count - done
+μ-loop seed count terms₀ stocks₀ handles₀ lengths₀ links₀ counts₀ at₀ done₀ terms stocks handles lengths links counts at done = count - done
 
 begin-requires : tie.Need-begin-requires Inv-loop μ-loop
 begin-requires c κs = search needs
@@ -24,14 +25,14 @@ loop-holds : tie.Need-loop-holds Inv-loop μ-loop
 loop-holds c = (search needs, goes-none _ _ (c .begin .ensures .valid _))
 
 calls-requires : tie.Need-calls-requires Inv-loop μ-loop
-calls-requires c κs = c .before .before .before .before .before .before .loop .inv .1 .valid
+calls-requires c κs = c .before .before .before .before .before .before .before .loop .inv .1 .valid
 
 add-done : tie.Need-add-done Inv-loop μ-loop
 add-done c = search needs
 
 tell-requires : tie.Need-tell-requires Inv-loop μ-loop
 tell-requires c κs =
-    let at = c .before .before .before .before .before .before .before in
+    let at = c .before .before .before .before .before .before .before .before in
     check-after _ (at .before .begin .ensures) (goes-as (omega arith) (goes-on (at .loop .inv .1) (c .calls .ensures)))
 
 returns : tie.Need-returns Inv-loop μ-loop
@@ -43,7 +44,7 @@ loop-less c = search needs
 loop-again : tie.Need-loop-again Inv-loop μ-loop
 loop-again c =
     let made = c .before .before in
-    let test = made .before .before .before .before .before .before in
+    let test = made .before .before .before .before .before .before .before in
     (omega (arith, test .loop-test .taken), goes-as (omega arith) (goes-on (test .before .loop .inv .1) (made .calls .ensures)))
 
 returns-2 : tie.Need-returns-2 Inv-loop μ-loop

@@ -12,12 +12,12 @@ use Rattle.remains.proofs.block.Statement.{statement}
 use Rattle.remains.proofs.block.Tie as tie
 
 abbrev Inv-loop : tie.InvT-loop
-Inv-loop terms₀ stocks₀ handles₀ lengths₀ links₀ number at₀ made₀ terms stocks handles lengths links at made =
+Inv-loop terms₀ stocks₀ handles₀ lengths₀ links₀ counts₀ number at₀ made₀ terms stocks handles lengths links counts at made =
     (made * stretch ≤ block)
-    × Goes (made * stretch) at₀ (tables terms₀ stocks₀ handles₀ lengths₀ links₀) at (tables terms stocks handles lengths links)
+    × Goes (made * stretch) at₀ (tables terms₀ stocks₀ handles₀ lengths₀ links₀ counts₀) at (tables terms stocks handles lengths links counts)
 
 abbrev μ-loop : tie.MeasureT-loop
-μ-loop terms₀ stocks₀ handles₀ lengths₀ links₀ number at₀ made₀ terms stocks handles lengths links at made =
+μ-loop terms₀ stocks₀ handles₀ lengths₀ links₀ counts₀ number at₀ made₀ terms stocks handles lengths links counts at made =
     block - made * stretch
 
 loop-holds : tie.Need-loop-holds Inv-loop μ-loop
@@ -34,7 +34,7 @@ loop-less c = search needs
 
 loop-again : tie.Need-loop-again Inv-loop μ-loop
 loop-again c =
-    let test = c .before .before .before .before .before .before in
+    let test = c .before .before .before .before .before .before .before in
     (omega (arith, test .loop-test .taken), goes-as (omega arith) (goes-on (test .before .loop .inv .1) (c .stretch .ensures)))
 
 returns : tie.Need-returns Inv-loop μ-loop

@@ -12,12 +12,14 @@ use Rattle.remains.proofs.blocks.Statement.{statement}
 use Rattle.remains.proofs.blocks.Tie as tie
 
 abbrev Inv-loop : tie.InvT-loop
-Inv-loop earlier seed count terms₀ stocks₀ handles₀ lengths₀ links₀ number at₀ done₀ terms stocks handles lengths links at done =
+Inv-loop earlier seed count terms₀ stocks₀ handles₀ lengths₀ links₀ counts₀ number at₀ done₀ terms stocks handles lengths links
+    counts at done =
     (done ≤ count)
-    × Goes (done * block) at₀ (tables terms₀ stocks₀ handles₀ lengths₀ links₀) at (tables terms stocks handles lengths links)
+    × Goes (done * block) at₀ (tables terms₀ stocks₀ handles₀ lengths₀ links₀ counts₀) at (tables terms stocks handles lengths links counts)
 
 abbrev μ-loop : tie.MeasureT-loop
-μ-loop earlier seed count terms₀ stocks₀ handles₀ lengths₀ links₀ number at₀ done₀ terms stocks handles lengths links at done =
+μ-loop earlier seed count terms₀ stocks₀ handles₀ lengths₀ links₀ counts₀ number at₀ done₀ terms stocks handles lengths links
+    counts at done =
     count - done
 
 start-requires : tie.Need-start-requires Inv-loop μ-loop
@@ -27,17 +29,17 @@ loop-holds : tie.Need-loop-holds Inv-loop μ-loop
 loop-holds c = (search needs, goes-none _ _ (c .start .ensures .valid))
 
 block-requires : tie.Need-block-requires Inv-loop μ-loop
-block-requires c κs = c .before .before .before .before .before .before .loop .inv .1 .valid
+block-requires c κs = c .before .before .before .before .before .before .before .loop .inv .1 .valid
 
 add-done : tie.Need-add-done Inv-loop μ-loop
 add-done c =
-    let test = c .before .before .before .before .before .before in
-    let entry = test .before .before .before .before .before .before .before .before in
+    let test = c .before .before .before .before .before .before .before in
+    let entry = test .before .before .before .before .before .before .before .before .before in
     omega (arith, test .loop-test .taken, entry .fits .count)
 
 tell-requires : tie.Need-tell-requires Inv-loop μ-loop
 tell-requires c κs =
-    let at = c .before .before .before .before .before .before .before in
+    let at = c .before .before .before .before .before .before .before .before in
     check-from (at .before .start .ensures) (goes-as (omega arith) (goes-on (at .loop .inv .1) (c .block .ensures)))
 
 returns : tie.Need-returns Inv-loop μ-loop
@@ -49,7 +51,7 @@ loop-less c = search needs
 loop-again : tie.Need-loop-again Inv-loop μ-loop
 loop-again c =
     let made = c .before .before in
-    let test = made .before .before .before .before .before .before in
+    let test = made .before .before .before .before .before .before .before in
     (omega (arith, test .loop-test .taken), goes-as (omega arith) (goes-on (test .before .loop .inv .1) (made .block .ensures)))
 
 returns-2 : tie.Need-returns-2 Inv-loop μ-loop

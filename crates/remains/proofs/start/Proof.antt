@@ -14,7 +14,7 @@ begin-requires-2 : tie.Need-begin-requires-2
 begin-requires-2 c κs = search needs
 
 calls-requires : tie.Need-calls-requires
-calls-requires c κs = c .before .before .before .before .before .begin2 .ensures .valid _
+calls-requires c κs = c .before .before .before .before .before .before .begin2 .ensures .valid _
 
 begin-requires-3 : tie.Need-begin-requires-3
 begin-requires-3 c κs = search needs
@@ -22,7 +22,7 @@ begin-requires-3 c κs = search needs
 returns-2 : tie.Need-returns-2
 returns-2 c =
     let made = c .before .before in
-    let begun = made .before .before .before .before .before .before in
+    let begun = made .before .before .before .before .before .before .before in
     starts-behind (begun .before .if1 .left) (begun .begin2 .ensures) (made .calls .ensures) (c .begin3 .ensures)
 
 pub start-spec : {M : Type 1} → statement M

@@ -18,7 +18,7 @@ take-requires c κs = search needs
 
 returns : tie.Need-returns
 returns c =
-    let made = c .before .before .before .before .before .before .before .before in
+    let made = c .before .before .before .before .before .before .before .before .before in
     let call = rw (made .before .k-of .ensures) at (made .call-of .ensures) in
     goes-once _ _ (made .before .before .draw .ensures) call (c .before .take .ensures)
 

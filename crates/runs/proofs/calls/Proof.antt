@@ -10,11 +10,12 @@ use Rattle.runs.proofs.calls.Statement.{statement}
 use Rattle.runs.proofs.calls.Tie as tie
 
 abbrev Inv-loop : tie.InvT-loop
-Inv-loop terms₀ stocks₀ handles₀ lengths₀ links₀ count at₀ made₀ terms stocks handles lengths links at made =
-    (made ≤ count) × Goes made at₀ (tables terms₀ stocks₀ handles₀ lengths₀ links₀) at (tables terms stocks handles lengths links)
+Inv-loop terms₀ stocks₀ handles₀ lengths₀ links₀ counts₀ count at₀ made₀ terms stocks handles lengths links counts at made =
+    (made ≤ count)
+    × Goes made at₀ (tables terms₀ stocks₀ handles₀ lengths₀ links₀ counts₀) at (tables terms stocks handles lengths links counts)
 
 abbrev μ-loop : tie.MeasureT-loop
-μ-loop terms₀ stocks₀ handles₀ lengths₀ links₀ count at₀ made₀ terms stocks handles lengths links at made = count - made
+μ-loop terms₀ stocks₀ handles₀ lengths₀ links₀ counts₀ count at₀ made₀ terms stocks handles lengths links counts at made = count - made
 
 loop-holds : tie.Need-loop-holds Inv-loop μ-loop
 loop-holds c = (search needs, goes-none _ _ (c .pre))
@@ -30,7 +31,7 @@ loop-less c = search needs
 
 loop-again : tie.Need-loop-again Inv-loop μ-loop
 loop-again c =
-    let test = c .before .before .before .before .before .before in
+    let test = c .before .before .before .before .before .before .before in
     (search needs, goes-on (test .before .loop .inv .1) (c .call-once .ensures))
 
 returns : tie.Need-returns Inv-loop μ-loop

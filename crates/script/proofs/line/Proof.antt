@@ -88,7 +88,7 @@ same-length-3 c = search needs
 returns-3 : tie.Need-returns-3
 returns-3 c =
     let performed = c .before .before .before .before .before .before .before in
-    let asked = performed .before .before .before .before .before .before in
+    let asked = performed .before .before .before .before .before .before .before in
     let read = asked .before .before in
     let parsed = read .before .before in
     let found = parsed .before .before .before in

@@ -69,42 +69,42 @@ tick-requires c κs = search needs
 returns : tie.Need-returns
 unfolding isTick
 returns c =
-    rw (c .before .before .before .before .before .before .before .before .call .given .1)
+    rw (c .before .before .before .before .before .before .before .before .before .call .given .1)
     (record { promised = rw (c .undrawn .ensures) (c .before .«open» .ensures); sum = λ tick. true-false tick refl })
 
 returns-2 : tie.Need-returns-2
 unfolding isTick
 returns-2 c =
-    rw (c .before .before .before .before .before .before .before .before .call2 .given .1)
+    rw (c .before .before .before .before .before .before .before .before .before .call2 .given .1)
     (record { promised = rw (c .undrawn2 .ensures) (c .before .join .ensures); sum = λ tick. true-false tick refl })
 
 returns-3 : tie.Need-returns-3
 unfolding isTick
 returns-3 c =
-    rw (c .before .before .before .before .before .before .before .before .call3 .given .1)
+    rw (c .before .before .before .before .before .before .before .before .before .call3 .given .1)
     (record { promised = rw (c .undrawn3 .ensures) (c .before .change .ensures); sum = λ tick. true-false tick refl })
 
 returns-4 : tie.Need-returns-4
 unfolding isTick
 returns-4 c =
-    rw (c .before .before .before .before .before .before .before .before .call4 .given .1)
+    rw (c .before .before .before .before .before .before .before .before .before .call4 .given .1)
     (record { promised = rw (c .undrawn4 .ensures) (c .before .leave .ensures); sum = λ tick. true-false tick refl })
 
 returns-5 : tie.Need-returns-5
 unfolding isTick
 returns-5 c =
-    rw (c .before .before .before .before .before .before .before .before .call5 .given .1)
+    rw (c .before .before .before .before .before .before .before .before .before .call5 .given .1)
     (record { promised = rw (c .undrawn5 .ensures) (c .before .load .ensures); sum = λ tick. true-false tick refl })
 
 returns-6 : tie.Need-returns-6
 unfolding isTick
 returns-6 c =
-    rw (c .before .before .before .before .before .before .before .before .call6 .given .1)
+    rw (c .before .before .before .before .before .before .before .before .before .call6 .given .1)
     (record { promised = rw (c .undrawn6 .ensures) (c .before .arrive .ensures); sum = λ tick. true-false tick refl })
 
 returns-7 : tie.Need-returns-7
 returns-7 c =
-    rw (c .before .before .before .before .before .before .enum-told .given .1)
+    rw (c .before .before .before .before .before .before .before .enum-told .given .1)
     (record { promised = c .tick .ensures .0; sum = λ tick. c .tick .ensures .1 .sum })
 
 pub perform-told-spec : {M : Type 1} → statement M

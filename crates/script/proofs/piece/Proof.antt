@@ -16,10 +16,10 @@ use Rattle.script.proofs.piece.Statement.{statement}
 use Rattle.script.proofs.piece.Tie as tie
 
 abbrev Inv-loop : tie.InvT-loop
-Inv-loop audience text at out₀ terms₀ stocks₀ handles₀ lengths₀ links₀ core₀ place₀ written₀ out terms stocks handles lengths links core place
+Inv-loop audience text at out₀ terms₀ stocks₀ handles₀ lengths₀ links₀ counts₀ core₀ place₀ written₀ out terms stocks handles lengths links counts core place
     written =
-    let before = tables terms₀ stocks₀ handles₀ lengths₀ links₀ in
-    let after = tables terms stocks handles lengths links in
+    let before = tables terms₀ stocks₀ handles₀ lengths₀ links₀ counts₀ in
+    let after = tables terms stocks handles lengths links counts in
     let sofar : Progress = record { control = core; next = place; written = written } in
     (length out ≡ length out₀)
     × Walked audience text at core₀ before [] out sofar after
@@ -28,7 +28,7 @@ Inv-loop audience text at out₀ terms₀ stocks₀ handles₀ lengths₀ links�
     × (length text ≤ at → Unmoved at core₀ before sofar after)
 
 abbrev μ-loop : tie.MeasureT-loop
-μ-loop audience text at out₀ terms₀ stocks₀ handles₀ lengths₀ links₀ core₀ place₀ written₀ out terms stocks handles lengths links core place written =
+μ-loop audience text at out₀ terms₀ stocks₀ handles₀ lengths₀ links₀ counts₀ core₀ place₀ written₀ out terms stocks handles lengths links counts core place written =
     length text - place
 
 loop-holds : tie.Need-loop-holds Inv-loop μ-loop
@@ -46,20 +46,20 @@ going c = on (c .before .before .before .before .before .args .text .now) _ _ _ 
 
 line-requires : tie.Need-line-requires Inv-loop μ-loop
 line-requires c κs =
-    let test = c .before .before .before .before .before .before in
+    let test = c .before .before .before .before .before .before .before in
     (test .before .before .loop .inv .1 .valid, going test .0, going test .1)
 
 loop-less : tie.Need-loop-less Inv-loop μ-loop
 loop-less c =
     let line = c .before .before .before .line .ensures in
-    let test = c .before .before .before .before .before .before .before .before .before .before in
+    let test = c .before .before .before .before .before .before .before .before .before .before .before in
     omega (arith, going test .0, line .1)
 
 loop-again : tie.Need-loop-again Inv-loop μ-loop
 loop-again c =
     let line = c .before .before .before .line .ensures in
     let same = c .before .before .before .line .kept .1 .1 .1 .0 in
-    let test = c .before .before .before .before .before .before .before .before .before .before in
+    let test = c .before .before .before .before .before .before .before .before .before .before .before in
     let before = test .before .before .loop .inv in (
       search needs,
       walked-more (before .1) (line .0),

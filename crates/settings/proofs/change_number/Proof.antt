@@ -20,10 +20,10 @@ active-number-requires c κs = search needs
 
 returns : tie.Need-returns
 unfolding changeChecks
-returns c stocks handles lengths links valid =
+returns c stocks handles lengths links counts valid =
     let a = c .before .before .args in
     active-failed (a .control) (a .id) _ (c .before .active-number .ensures)
-    (tables (a .terms .now) stocks handles lengths links) _ (c .if1 .taken)
+    (tables (a .terms .now) stocks handles lengths links counts) _ (c .if1 .taken)
 
 -- once the id is known to be active
 runs : (c : tie.Else1) → c .before .before .args .control .opened ≡ true
@@ -60,10 +60,10 @@ terms-number-requires c κs = search needs
 
 returns-2 : tie.Need-returns-2
 unfolding ids field changeChecks stateOf
-returns-2 c stocks handles lengths links valid =
+returns-2 c stocks handles lengths links counts valid =
     let e = c .before .before .before in
     let a = e .before .before .args in
-    let t = tables (a .terms .now) stocks handles lengths links in
+    let t = tables (a .terms .now) stocks handles lengths links counts in
     c .terms-number .ensures
     ∙ ap (λ (others : ℕ). firstFailed (termChecks (a .control .threshold) others (a .kind) (a .rate) (a .burst)))
     (others-held (a .control) t (valid (runs e) .shape) (a .id) (below e))

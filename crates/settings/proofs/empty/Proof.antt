@@ -11,7 +11,7 @@ clear-requires : tie.Need-clear-requires
 clear-requires c κs = search needs
 
 returns : tie.Need-returns
-returns c terms handles lengths shape =
+returns c terms handles lengths counts shape =
     let w = c .before .before .withdraw in
     let start = c .before .before .before .before .before in
     let a = start .args in

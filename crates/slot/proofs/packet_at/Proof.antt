@@ -26,7 +26,7 @@ lengthened-requires c κs = search needs
 
 returns : tie.Need-returns
 unfolding packetAt
-returns c es ks ns = rw (c .lengthened .ensures)
+returns c es ks ns ms = rw (c .lengthened .ensures)
 
 pub packet-at-spec : {M : Type 1} → statement M
 packet-at-spec =

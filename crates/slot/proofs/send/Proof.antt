@@ -16,14 +16,14 @@ send-packet-requires : tie.Need-send-packet-requires
 send-packet-requires c κs =
     let tested = c .before .before in
     let start = tested .before .before in
-    (start .pre, marked-some _ _ _ (start .pre .1) (sym (tested .before .has .ensures) ∙ tested .if1 .taken))
+    (start .pre, marked-some _ _ _ (start .pre .2) (sym (tested .before .has .ensures) ∙ tested .if1 .taken))
 
 returns : tie.Need-returns
 returns c = search needs
 
 add-at : tie.Need-add-at
 unfolding ids
-add-at c = omega (arith, c .before .before .pre .1 .below)
+add-at c = omega (arith, c .before .before .pre .2 .below)
 
 cast-at : tie.Need-cast-at
 cast-at c = search needs
@@ -33,7 +33,7 @@ mul-pool c = search needs
 
 element-copy-out-pool : tie.Need-element-copy-out-pool
 unfolding ids
-element-copy-out-pool c = omega (arith, c .before .before .pre .1 .below)
+element-copy-out-pool c = omega (arith, c .before .before .pre .2 .below)
 
 sub-stocks : tie.Need-sub-stocks
 sub-stocks c = search needs
@@ -43,11 +43,11 @@ mul-stocks c = search needs
 
 element-write-stocks : tie.Need-element-write-stocks
 unfolding ids
-element-write-stocks c = omega (arith, c .before .before .before .before .pre .1 .below)
+element-write-stocks c = omega (arith, c .before .before .before .before .pre .2 .below)
 
 returns-2 : tie.Need-returns-2
 unfolding ids field
-returns-2 c terms sender =
+returns-2 c terms counts sender =
     let tested = c .before .before in
     let start = tested .before .before in
     dummy-spent _ _ _ sender
@@ -55,7 +55,7 @@ returns-2 c terms sender =
 
 returns-3 : tie.Need-returns-3
 unfolding ids field
-returns-3 c terms sender =
+returns-3 c terms counts sender =
     let tested = c .before .before in
     let start = tested .before .before in
     idle-spent _ _ _ sender

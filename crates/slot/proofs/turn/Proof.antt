@@ -21,7 +21,7 @@ draw-among-requires : tie.Need-draw-among-requires
 draw-among-requires c κs = c .total .ensures
 
 returns : tie.Need-returns
-returns c k h l core =
+returns c k h l n core =
     let tested = c .before .before .before .before in
     let both = tested .before .before in
     chosen-contender _ _ core (both .both .result) (both .both .ensures)
@@ -36,7 +36,7 @@ undrawn-requires c κs = search needs
 
 returns-2 : tie.Need-returns-2
 unfolding places
-returns-2 c k h l core =
+returns-2 c k h l n core =
     let fronted = c .before in
     let tested = fronted .before .before .before in
     let both = tested .before .before in
@@ -48,13 +48,13 @@ any-requires-2 : tie.Need-any-requires-2
 any-requires-2 c κs = search needs
 
 private-total-requires : tie.Need-private-total-requires
-private-total-requires c κs = held-by-both _ _ (c .before .before .before .before .before .before .pre .3)
+private-total-requires c κs = held-by-both _ _ (c .before .before .before .before .before .before .pre .4)
 
 draw-among-requires-2 : tie.Need-draw-among-requires-2
 draw-among-requires-2 c κs = c .private-total .ensures
 
 returns-3 : tie.Need-returns-3
-returns-3 c k h l core =
+returns-3 c k h l n core =
     let tested = c .before .before .before .before in
     let both = tested .before .before in
     chosen-private _ _ core (both .both .result) (both .both .ensures)
@@ -66,7 +66,7 @@ undrawn-requires-2 : tie.Need-undrawn-requires-2
 undrawn-requires-2 c κs = search needs
 
 returns-4 : tie.Need-returns-4
-returns-4 c k h l core =
+returns-4 c k h l n core =
     let last = c .before in
     let tested = last .before .before in
     let both = tested .before .before in

@@ -29,19 +29,39 @@ returns-2 c =
     let first = c .before .before .before in
     rw (
       same-asked _ (bytes "--operator") _ (first .before .same .ensures) ∙ first .if1 .left,
-      same-asked _ (bytes "--help") _ (c .before .same2 .ensures) ∙ c .if2 .taken,
+      same-asked _ (bytes "--counts") _ (c .before .same2 .ensures) ∙ c .if2 .taken,
     )
+
+slice-aggregate-same-3 : tie.Need-slice-aggregate-same-3
+slice-aggregate-same-3 c = search needs
+
+same-requires-3 : tie.Need-same-requires-3
+same-requires-3 c κs = search needs
 
 returns-3 : tie.Need-returns-3
 unfolding alone
 returns-3 c =
-    let first = c .before .before .before in
+    let second = c .before .before .before in
+    let first = second .before .before .before in
     rw (
       same-asked _ (bytes "--operator") _ (first .before .same .ensures) ∙ first .if1 .left,
-      same-asked _ (bytes "--help") _ (c .before .same2 .ensures) ∙ c .if2 .left,
+      same-asked _ (bytes "--counts") _ (second .before .same2 .ensures) ∙ second .if2 .left,
+      same-asked _ (bytes "--help") _ (c .before .same3 .ensures) ∙ c .if3 .taken,
+    )
+
+returns-4 : tie.Need-returns-4
+unfolding alone
+returns-4 c =
+    let second = c .before .before .before in
+    let first = second .before .before .before in
+    rw (
+      same-asked _ (bytes "--operator") _ (first .before .same .ensures) ∙ first .if1 .left,
+      same-asked _ (bytes "--counts") _ (second .before .same2 .ensures) ∙ second .if2 .left,
+      same-asked _ (bytes "--help") _ (c .before .same3 .ensures) ∙ c .if3 .left,
     )
 
 pub option-alone-spec : {M : Type 1} → statement M
 option-alone-spec =
     tie.close
-    (tie.spec slice-aggregate-same same-requires returns slice-aggregate-same-2 same-requires-2 returns-2 returns-3)
+    (tie.spec slice-aggregate-same same-requires returns slice-aggregate-same-2 same-requires-2 returns-2 slice-aggregate-same-3
+    same-requires-3 returns-3 returns-4)

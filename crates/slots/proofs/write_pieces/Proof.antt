@@ -13,12 +13,12 @@ use Rattle.slots.proofs.write_pieces.Statement.{statement}
 use Rattle.slots.proofs.write_pieces.Tie as tie
 
 abbrev Inv-loop : tie.InvT-loop
-Inv-loop audience text out₀ terms₀ stocks₀ handles₀ lengths₀ links₀ control₀ at₀ written₀ total₀ out terms stocks handles lengths links control at
+Inv-loop audience text out₀ terms₀ stocks₀ handles₀ lengths₀ links₀ counts₀ control₀ at₀ written₀ total₀ out terms stocks handles lengths links counts control at
     written total =
-    (length out ≡ length out₀) × Counted audience text out control (tables terms stocks handles lengths links) at written total
+    (length out ≡ length out₀) × Counted audience text out control (tables terms stocks handles lengths links counts) at written total
 
 abbrev μ-loop : tie.MeasureT-loop
-μ-loop audience text out₀ terms₀ stocks₀ handles₀ lengths₀ links₀ control₀ at₀ written₀ total₀ out terms stocks handles lengths links control at
+μ-loop audience text out₀ terms₀ stocks₀ handles₀ lengths₀ links₀ counts₀ control₀ at₀ written₀ total₀ out terms stocks handles lengths links counts control at
     written total =
     length text - at
 
@@ -42,26 +42,26 @@ returns c = counted-all (c .before .before .before .before .loop .inv .1) (c .if
 
 piece-requires : tie.Need-piece-requires Inv-loop μ-loop
 piece-requires c κs =
-    c .before .before .before .before .before .before .before .before .before .before .loop .inv .1 .reached .valid
+    c .before .before .before .before .before .before .before .before .before .before .before .loop .inv .1 .reached .valid
 
 add-total : tie.Need-add-total Inv-loop μ-loop
 unfolding textLimit
 add-total c =
-    let test = c .before .before .before .before .before .before .before .before .before .before in
+    let test = c .before .before .before .before .before .before .before .before .before .before .before in
     let inv = test .before .before .before .before .loop .inv in
     let same = c .before .before .before .piece .kept .1 .1 .1 .0 in
     omega (arith, counted-fits (inv .1) (c .before .before .before .piece .ensures) same (test .if2 .left))
 
 loop-less : tie.Need-loop-less Inv-loop μ-loop
 loop-less c =
-    let test = c .before .before .before .before .before .before .before .before .before .before in
+    let test = c .before .before .before .before .before .before .before .before .before .before .before in
     let inv = test .before .before .before .before .loop .inv in
     let same = c .before .before .before .piece .kept .1 .1 .1 .0 in
     omega (arith, test .if2 .left, counted-on (inv .1) (c .before .before .before .piece .ensures) same (test .if2 .left))
 
 loop-again : tie.Need-loop-again Inv-loop μ-loop
 loop-again c =
-    let test = c .before .before .before .before .before .before .before .before .before .before in
+    let test = c .before .before .before .before .before .before .before .before .before .before .before in
     let inv = test .before .before .before .before .loop .inv in
     let same = c .before .before .before .piece .kept .1 .1 .1 .0 in
     (same ∙ inv .0, counted-more (inv .1) (c .before .before .before .piece .ensures) same (test .if2 .left))

@@ -4,8 +4,10 @@ use borrow.Author.Needs.{needs}
 use Prim.Native.Nat.{_≤_, _<_}
 use mathlib.Core.Path.{_≡_, refl, sym, _∙_}
 use mathlib.Core.Logic.{⊎-elim}
+use lib.Dec.{lit<}
 use Rattle.definitions.specs.Sizes.{ids, places, longest}
 use Rattle.definitions.specs.Client.{isIndifferent}
+use Rattle.definitions.specs.Counts.{column, countAccepted}
 use Rattle.definitions.specs.Answers.{isAccepted}
 use Rattle.definitions.specs.Checks.{arriveChecks}
 use Rattle.tables.specs.Tables.{Tables, tables, countAt}
@@ -13,9 +15,10 @@ use Rattle.tables.specs.Meaning.{kindAt}
 use Rattle.tables.specs.Invariant.{Shape}
 use Rattle.tables.specs.Numbers.{refusal}
 use Rattle.tables.proofs.MarkedKinds.{kind-indifferent}
-use Rattle.tables.proofs.Promises.{in-place, with-places}
+use Rattle.tables.proofs.Promises.{meets-recounted, in-place, with-places}
 use Rattle.traffic.proofs.ArrivedTables.{place-stored, chargedTerms, Lined}
 use Rattle.traffic.proofs.ArrivePromise.{lined-private, lined-indifferent, arrive-refused, arrive-accepted}
+use Rattle.traffic.proofs.ArrivePromise.{arrive-dropped, arrive-refused-counts, arrive-counts}
 use Rattle.traffic.proofs.ArrivePromise.{arrive-sound, arrive-below, arrive-short, arrive-room, arrive-paid}
 use Rattle.traffic.proofs.arrive.Statement.{statement}
 use Rattle.traffic.proofs.arrive.Tie as tie
@@ -23,26 +26,38 @@ use Rattle.traffic.proofs.arrive.Tie as tie
 arrive-number-requires : tie.Need-arrive-number-requires
 arrive-number-requires c κs = search needs
 
+drop-requires : tie.Need-drop-requires
+drop-requires c κs =
+    let counted = c .before .before in
+    let start = counted .before .before .before in
+    arrive-dropped (start .args .control) _ (start .pre) (start .args .id) (start .args .packet) _ (counted .arrive-number .ensures _ _ _ _)
+
 refused-requires : tie.Need-refused-requires
 refused-requires c κs = search needs
 
 returns : tie.Need-returns
 returns c =
-    let start = c .before .before .before .before .before in
+    let dropped = c .before in
+    let tested = dropped .before .before in
+    let start = tested .before .before .before .before in
+    let number = tested .before .arrive-number .ensures _ _ _ _ in
     in-place refl refl
+    (arrive-refused-counts (start .args .control) _ (start .pre) (start .args .id) (start .args .packet) (c .refused .result) _ _
+    (c .refused .ensures) number (dropped .drop .ensures))
+    (meets-recounted (dropped .drop .ensures .size)
     (arrive-refused (start .args .control) _ (start .pre) (start .args .id) (start .args .packet) (c .refused .result) _
-    (c .refused .ensures) (c .before .before .arrive-number .ensures _ _ _) (c .before .if1 .taken))
+    (c .refused .ensures) number (tested .if1 .taken)))
 
 -- what is known where no check failed
 abbrev entry : tie.Else1 → Tables
 entry c =
     let a = c .before .before .before .before .args in
-    tables (a .terms .now) (a .stocks .now) (a .handles .now) (a .lengths .now) (a .links .now)
+    tables (a .terms .now) (a .stocks .now) (a .handles .now) (a .lengths .now) (a .links .now) (a .counts .now)
 
 none : (c : tie.Else1) →
     let a = c .before .before .before .before .args in
     refusal (a .control) (entry c) (λ s. arriveChecks s (a .id) (a .packet)) ≡ 0
-none c = sym (c .before .arrive-number .ensures _ _ _) ∙ c .if1 .left
+none c = sym (c .before .arrive-number .ensures _ _ _ _) ∙ c .if1 .left
 
 abbrev shape : (c : tie.Else1) → let a = c .before .before .before .before .args in Shape (a .control) (entry c)
 shape c =
@@ -129,29 +144,41 @@ met c =
 mark-requires : tie.Need-mark-requires
 mark-requires c κs = search needs
 
+raise-requires : tie.Need-raise-requires
+raise-requires c κs =
+    let join = c .before .before in
+    (below (join .before .before .before .before .before .before .before .before .before), lit< tt)
+
 accepted-requires : tie.Need-accepted-requires
 accepted-requires c κs = search needs
 
 returns-2 : tie.Need-returns-2
-unfolding isAccepted
+unfolding isAccepted column
 returns-2 c =
-    let join = c .before .before in
+    let raised = c .before in
+    let marked = raised .before .before in
+    let join = marked .before in
     let e = join .before .before .before .before .before .before .before .before .before in
     let start = e .before .before .before .before in
     let kept = join .before .before .before .before .keep in
     let free = join .before .before .before .before .before .before .before .free-place in
     let counted = join .before .before .count-up in
+    let entries = raised .raise .ensures countAccepted refl in
     with-places (c .accepted .ensures) refl
+    (arrive-counts (start .args .control) (entry e) (start .pre) (start .args .id) (start .args .packet) (none e)
+    (marked .mark .result) (c .accepted .result) _ (c .accepted .ensures) entries)
     (rw (met join .0, counted .ensures, kept .ensures .0, kept .ensures .1, free .ensures)
+    (meets-recounted (entries .size)
     (arrive-accepted (start .args .control) (entry e) (start .pre) (start .args .id) (start .args .packet) (none e)
-    (join .if2 .links) (c .before .mark .result) (met join .1) (c .before .mark .ensures) (c .accepted .result)
-    (c .accepted .ensures)))
+    (join .if2 .links) (marked .mark .result) (met join .1) (marked .mark .ensures) (c .accepted .result)
+    (c .accepted .ensures))))
 
 pub arrive-spec : {M : Type 1} → statement M
 arrive-spec =
     tie.close
     (tie.spec
     arrive-number-requires
+    drop-requires
     refused-requires
     returns
     free-place-requires
@@ -161,5 +188,6 @@ arrive-spec =
     charge-requires
     push-requires
     mark-requires
+    raise-requires
     accepted-requires
     returns-2)

@@ -25,9 +25,10 @@ active-number-requires c κs = search needs
 
 returns : tie.Need-returns
 unfolding arriveChecks
-returns c handles lengths links =
+returns c handles lengths links counts =
     let a = c .before .before .args in
-    active-failed (a .control) (a .id) _ (c .before .active-number .ensures) (tables (a .terms .now) (a .stocks .now) handles lengths links) _
+    active-failed (a .control) (a .id) _ (c .before .active-number .ensures)
+    (tables (a .terms .now) (a .stocks .now) handles lengths links counts) _
     (c .if1 .taken)
 
 -- the numbers behind 19, 4 and 5, by the packet's length, the id's count, whether it is indifferent, and its level
@@ -47,24 +48,24 @@ below c =
     let a = c .before .before .args in
     active-below (a .control) (a .id) _ (c .before .active-number .ensures) (c .if1 .left)
 
-rest : (c : tie.Else1) (handles lengths links : List ℕ) →
+rest : (c : tie.Else1) (handles lengths links counts : List ℕ) →
     let a = c .before .before .args in
-    refusal (a .control) (tables (a .terms .now) (a .stocks .now) handles lengths links) (λ s. arriveChecks s (a .id) (a .packet))
+    refusal (a .control) (tables (a .terms .now) (a .stocks .now) handles lengths links counts) (λ s. arriveChecks s (a .id) (a .packet))
     ≡ byLength (a .packet .length) (countAt (a .stocks .now) (a .id)) (marked (a .control .indifferent) (a .id))
     (levelAt (a .terms .now) (a .id))
 unfolding arriveChecks firstFailed within stateOf clientsOf clientAt sideOf stocksOf stockAt
-rest c handles lengths links =
+rest c handles lengths links counts =
     let a = c .before .before .args in
-    let t = tables (a .terms .now) (a .stocks .now) handles lengths links in
+    let t = tables (a .terms .now) (a .stocks .now) handles lengths links counts in
     active-rest (a .control) (a .id) _ (c .before .active-number .ensures) (c .if1 .left) t _
     ∙ rw (lt-ltb (a .id) ids (below c), kind-indifferent (a .control) (a .id), queue-length t (a .id))
 
 returns-2 : tie.Need-returns-2
 unfolding shortest
-returns-2 c handles lengths links =
+returns-2 c handles lengths links counts =
     let a = c .before .before .before .before .args in
     let short : a .packet .length < shortest = omega (arith, c .if2 .taken) in
-    sym (rest (c .before .before) handles lengths links ∙ rw (lt-leb _ _ short))
+    sym (rest (c .before .before) handles lengths links counts ∙ rw (lt-leb _ _ short))
 
 long-enough : (c : tie.Else2) → shortest ≤ c .before .before .before .before .args .packet .length
 unfolding shortest
@@ -72,21 +73,22 @@ long-enough c = omega (arith, c .if2 .left)
 
 returns-3 : tie.Need-returns-3
 unfolding longest
-returns-3 c handles lengths links =
+returns-3 c handles lengths links counts =
     let a = c .before .before .before .before .before .before .args in
     let long : longest < a .packet .length = omega (arith, c .if3 .taken) in
-    sym (rest (c .before .before .before .before) handles lengths links ∙ rw (le-leb _ _ (long-enough (c .before .before)), lt-leb _ _ long))
+    sym (rest (c .before .before .before .before) handles lengths links counts
+    ∙ rw (le-leb _ _ (long-enough (c .before .before)), lt-leb _ _ long))
 
 -- and the length to fit
-fits : (c : tie.Else3) (handles lengths links : List ℕ) →
+fits : (c : tie.Else3) (handles lengths links counts : List ℕ) →
     let a = c .before .before .before .before .before .before .args in
-    refusal (a .control) (tables (a .terms .now) (a .stocks .now) handles lengths links) (λ s. arriveChecks s (a .id) (a .packet))
+    refusal (a .control) (tables (a .terms .now) (a .stocks .now) handles lengths links counts) (λ s. arriveChecks s (a .id) (a .packet))
     ≡ byCount (countAt (a .stocks .now) (a .id)) (marked (a .control .indifferent) (a .id)) (levelAt (a .terms .now) (a .id))
 unfolding longest
-fits c handles lengths links =
+fits c handles lengths links counts =
     let a = c .before .before .before .before .before .before .args in
     let short-enough : a .packet .length ≤ longest = omega (arith, c .if3 .left) in
-    rest (c .before .before .before .before) handles lengths links
+    rest (c .before .before .before .before) handles lengths links counts
     ∙ rw (le-leb _ _ (long-enough (c .before .before)), le-leb _ _ short-enough)
 
 add-if4 : tie.Need-add-if4
@@ -105,27 +107,27 @@ element-copy-out-if4 c = omega (arith, below (c .before .before .before .before)
 
 returns-4 : tie.Need-returns-4
 unfolding places field ids
-returns-4 c handles lengths links =
+returns-4 c handles lengths links counts =
     let a = c .before .before .before .before .before .before .before .before .args in
     let full : places ≤ countAt (a .stocks .now) (a .id) = omega (arith, c .if4 .taken) in
-    sym (fits (c .before .before) handles lengths links ∙ rw (le-ltb _ _ full))
+    sym (fits (c .before .before) handles lengths links counts ∙ rw (le-ltb _ _ full))
 
 has-requires : tie.Need-has-requires
 has-requires c κs = search needs
 
 -- and a place to be left
-room : (c : tie.After-has) (handles lengths links : List ℕ) →
+room : (c : tie.After-has) (handles lengths links counts : List ℕ) →
     let a = c .before .before .before .before .before .before .before .before .before .args in
-    refusal (a .control) (tables (a .terms .now) (a .stocks .now) handles lengths links) (λ s. arriveChecks s (a .id) (a .packet))
+    refusal (a .control) (tables (a .terms .now) (a .stocks .now) handles lengths links counts) (λ s. arriveChecks s (a .id) (a .packet))
     ≡ byLevel (c .has .result) (levelAt (a .terms .now) (a .id))
 unfolding places field ids
-room c handles lengths links =
+room c handles lengths links counts =
     let a = c .before .before .before .before .before .before .before .before .before .args in
     let left : countAt (a .stocks .now) (a .id) < places = omega (arith, c .before .if4 .left) in
-    fits (c .before .before .before) handles lengths links ∙ rw (lt-ltb _ _ left, sym (c .has .ensures))
+    fits (c .before .before .before) handles lengths links counts ∙ rw (lt-ltb _ _ left, sym (c .has .ensures))
 
 returns-5 : tie.Need-returns-5
-returns-5 c handles lengths links = sym (room (c .before) handles lengths links ∙ rw (c .if5 .taken))
+returns-5 c handles lengths links counts = sym (room (c .before) handles lengths links counts ∙ rw (c .if5 .taken))
 
 add-if6 : tie.Need-add-if6
 unfolding ids
@@ -143,19 +145,19 @@ element-copy-out-if6 c = omega (arith, below (c .before .before .before .before 
 
 returns-6 : tie.Need-returns-6
 unfolding shares field ids
-returns-6 c handles lengths links =
+returns-6 c handles lengths links counts =
     let has = c .before .before .before in
     let a = has .before .before .before .before .before .before .before .before .before .args in
     let poor : levelAt (a .terms .now) (a .id) < shares = omega (arith, c .if6 .taken) in
-    sym (room has handles lengths links ∙ rw (c .before .before .if5 .left, lt-leb _ _ poor))
+    sym (room has handles lengths links counts ∙ rw (c .before .before .if5 .left, lt-leb _ _ poor))
 
 returns-7 : tie.Need-returns-7
 unfolding shares field ids
-returns-7 c handles lengths links =
+returns-7 c handles lengths links counts =
     let has = c .before .before .before in
     let a = has .before .before .before .before .before .before .before .before .before .args in
     let pays : shares ≤ levelAt (a .terms .now) (a .id) = omega (arith, c .if6 .left) in
-    sym (room has handles lengths links ∙ rw (c .before .before .if5 .left, le-leb _ _ pays))
+    sym (room has handles lengths links counts ∙ rw (c .before .before .if5 .left, le-leb _ _ pays))
 
 pub arrive-number-spec : {M : Type 1} → statement M
 arrive-number-spec =

@@ -9,7 +9,7 @@ use Rattle.definitions.specs.Checks.{loadChecks}
 use Rattle.tables.specs.Tables.{Tables, tables, field, poolAt}
 use Rattle.tables.specs.Numbers.{refusal}
 use Rattle.tables.proofs.Promises.{in-place}
-use Rattle.traffic.proofs.LoadPromise.{load-refused, load-below, load-fits, load-accepted}
+use Rattle.traffic.proofs.LoadPromise.{load-refused, load-refused-counts, load-below, load-fits, load-accepted, load-counts}
 use Rattle.traffic.proofs.load.Statement.{statement}
 use Rattle.traffic.proofs.load.Tie as tie
 
@@ -23,18 +23,20 @@ returns : tie.Need-returns
 returns c =
     let start = c .before .before .before .before in
     in-place refl refl
+    (load-refused-counts (start .args .control) _ (start .pre) (start .args .id) (start .args .dummies) (c .refused .result) _
+    (c .refused .ensures))
     (load-refused (start .args .control) _ (start .pre) (start .args .id) (start .args .dummies) (c .refused .result) _
-    (c .refused .ensures) (c .before .before .load-number .ensures _ _ _ _) (c .before .if1 .taken))
+    (c .refused .ensures) (c .before .before .load-number .ensures _ _ _ _ _) (c .before .if1 .taken))
 
 -- what is known where no check failed
 abbrev entry : tie.Else1 → Tables
 entry c =
     let a = c .before .before .before .args in
-    tables (a .terms .now) (a .stocks .now) (a .handles .now) (a .lengths .now) (a .links .now)
+    tables (a .terms .now) (a .stocks .now) (a .handles .now) (a .lengths .now) (a .links .now) (a .counts .now)
 
 none : (c : tie.Else1) →
     let a = c .before .before .before .args in refusal (a .control) (entry c) (λ s. loadChecks s (a .id) (a .dummies)) ≡ 0
-none c = sym (c .before .load-number .ensures _ _ _ _) ∙ c .if1 .left
+none c = sym (c .before .load-number .ensures _ _ _ _ _) ∙ c .if1 .left
 
 below : (c : tie.Else1) → c .before .before .before .args .id < ids
 below c =
@@ -80,6 +82,8 @@ returns-2 c =
     let e = c .before .before in
     let start = e .before .before .before in
     in-place refl refl
+    (load-counts (start .args .control) (entry e) (start .pre) (start .args .id) (start .args .dummies) (c .accepted .result)
+    (c .accepted .ensures))
     (load-accepted (start .args .control) (entry e) (start .pre) (start .args .id) (start .args .dummies) (none e)
     (c .accepted .result) (c .accepted .ensures))
 

@@ -24,9 +24,10 @@ active-number-requires c κs = search needs
 
 returns : tie.Need-returns
 unfolding loadChecks
-returns c terms handles lengths links =
+returns c terms handles lengths links counts =
     let a = c .before .before .args in
-    active-failed (a .control) (a .id) _ (c .before .active-number .ensures) (tables terms (a .stocks .now) handles lengths links) _ (c .if1 .taken)
+    active-failed (a .control) (a .id) _ (c .before .active-number .ensures)
+    (tables terms (a .stocks .now) handles lengths links counts) _ (c .if1 .taken)
 
 -- once the id is known to be active
 below : (c : tie.Else1) → c .before .before .args .id < ids
@@ -34,22 +35,24 @@ below c =
     let a = c .before .before .args in
     active-below (a .control) (a .id) _ (c .before .active-number .ensures) (c .if1 .left)
 
-rest : (c : tie.Else1) (terms handles lengths links : List ℕ) →
+rest : (c : tie.Else1) (terms handles lengths links counts : List ℕ) →
     let a = c .before .before .args in
-    refusal (a .control) (tables terms (a .stocks .now) handles lengths links) (λ s. loadChecks s (a .id) (a .dummies))
+    refusal (a .control) (tables terms (a .stocks .now) handles lengths links counts) (λ s. loadChecks s (a .id) (a .dummies))
     ≡ cond (not (marked (a .control .indifferent) (a .id)))
     (cond (leb (poolAt (a .stocks .now) (a .id) + a .dummies) poolLimit) 0 12) 11
 unfolding loadChecks firstFailed stateOf clientsOf clientAt sideOf stocksOf stockAt
-rest c terms handles lengths links =
+rest c terms handles lengths links counts =
     let a = c .before .before .args in
-    active-rest (a .control) (a .id) _ (c .before .active-number .ensures) (c .if1 .left) (tables terms (a .stocks .now) handles lengths links) _
+    active-rest (a .control) (a .id) _ (c .before .active-number .ensures) (c .if1 .left)
+    (tables terms (a .stocks .now) handles lengths links counts) _
     ∙ rw (lt-ltb (a .id) ids (below c), kind-indifferent (a .control) (a .id))
 
 has-requires : tie.Need-has-requires
 has-requires c κs = search needs
 
 returns-2 : tie.Need-returns-2
-returns-2 c terms handles lengths links = sym (rest (c .before .before) terms handles lengths links ∙ rw (sym (c .before .has .ensures) ∙ c .if2 .taken))
+returns-2 c terms handles lengths links counts =
+    sym (rest (c .before .before) terms handles lengths links counts ∙ rw (sym (c .before .has .ensures) ∙ c .if2 .taken))
 
 add-wide : tie.Need-add-wide
 unfolding ids
@@ -76,21 +79,23 @@ add-if3 c = omega (arith, c .wide2 .ensures, c .before .wide .ensures)
 
 returns-3 : tie.Need-returns-3
 unfolding poolLimit field ids
-returns-3 c terms handles lengths links =
+returns-3 c terms handles lengths links counts =
     let private = c .before .before .before .before in
     let a = private .before .before .before .before .args in
     let past : poolLimit < poolAt (a .stocks .now) (a .id) + a .dummies =
     omega (arith, c .if3 .taken, c .before .wide2 .ensures, c .before .before .wide .ensures) in
-    sym (rest (private .before .before) terms handles lengths links ∙ rw (sym (private .before .has .ensures) ∙ private .if2 .left, lt-leb _ _ past))
+    sym (rest (private .before .before) terms handles lengths links counts
+    ∙ rw (sym (private .before .has .ensures) ∙ private .if2 .left, lt-leb _ _ past))
 
 returns-4 : tie.Need-returns-4
 unfolding poolLimit field ids
-returns-4 c terms handles lengths links =
+returns-4 c terms handles lengths links counts =
     let private = c .before .before .before .before in
     let a = private .before .before .before .before .args in
     let fits : poolAt (a .stocks .now) (a .id) + a .dummies ≤ poolLimit =
     omega (arith, c .if3 .left, c .before .wide2 .ensures, c .before .before .wide .ensures) in
-    sym (rest (private .before .before) terms handles lengths links ∙ rw (sym (private .before .has .ensures) ∙ private .if2 .left, le-leb _ _ fits))
+    sym (rest (private .before .before) terms handles lengths links counts
+    ∙ rw (sym (private .before .has .ensures) ∙ private .if2 .left, le-leb _ _ fits))
 
 pub load-number-spec : {M : Type 1} → statement M
 load-number-spec =
