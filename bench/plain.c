@@ -1,6 +1,8 @@
-/* The slot core of paper 01, with S-1, S-4 and S-9 of paper 02, in plain C. Nothing is on the heap, and every call but open, change
+/* The slot core of paper 01, with S-1, S-4, S-7 and S-9 of paper 02, in plain C. Nothing is on the heap, and every call but open, change
    and leave takes constant time, besides one walk over marks in a draw and one in the refill. */
 #include "plain.h"
+
+#include <string.h>
 
 enum {
     FULL_LINK = 1024, /* shares of the link; also the tokens of one packet */
@@ -122,6 +124,7 @@ uint32_t plain_join(plain_core *core, uint32_t id, uint32_t type, uint32_t rate,
     if (active(core, id)) return 6;
     uint32_t refused = check_terms(core, core->rates, type, rate, burst);
     if (refused) return refused;
+    memset(core->counts[id], 0, sizeof core->counts[id]);
     settle(core, id, type, rate, burst);
     return 0;
 }
@@ -147,6 +150,7 @@ uint32_t plain_change(plain_core *core, uint32_t id, uint32_t type, uint32_t rat
     if (indifferent == (type == PLAIN_INDIFFERENT)) {
         retune(core, id, rate, burst);
     } else {
+        core->counts[id][PLAIN_EMPTIED] += core->count[id];
         clear(core, id);
         settle(core, id, type, rate, burst);
     }
@@ -158,6 +162,7 @@ uint32_t plain_leave(plain_core *core, uint32_t id) {
     if (id >= PLAIN_CLIENTS) return 4;
     if (!active(core, id)) return 5;
     clear(core, id);
+    memset(core->counts[id], 0, sizeof core->counts[id]);
     return 0;
 }
 
@@ -176,12 +181,19 @@ uint32_t plain_arrive(plain_core *core, uint32_t id, uint64_t handle, uint32_t l
     if (id >= PLAIN_CLIENTS) return 4;
     if (!active(core, id)) return 5;
     if (length - MIN_LENGTH > MAX_LENGTH - MIN_LENGTH) return 13;
-    if (core->count[id] == PLAIN_DEPTH) return 14;
+    if (core->count[id] == PLAIN_DEPTH) {
+        core->counts[id][PLAIN_FULL]++;
+        return 14;
+    }
     bool indifferent = core->indifferent & mark(id);
     if (indifferent) {
-        if (core->level[id] < FULL_LINK) return 15;
+        if (core->level[id] < FULL_LINK) {
+            core->counts[id][PLAIN_DRAINED]++;
+            return 15;
+        }
         core->level[id] -= FULL_LINK;
     }
+    core->counts[id][PLAIN_ACCEPTED]++;
     queue_push(core, id, (plain_packet){handle, length}, indifferent);
     return 0;
 }
@@ -228,6 +240,7 @@ static inline void send_indifferent(plain_core *core, uint64_t ready, plain_slot
     uint32_t id = core->discipline == 0 ? core->next[ORDER_END] / PLAIN_DEPTH
                                         : draw(core, ready, core->waiting_rates);
     plain_packet packet = queue_pop(core, id, true);
+    core->counts[id][PLAIN_SENT]++;
     *slot = (plain_slot){packet.handle, PLAIN_REAL, id, packet.length, 0};
 }
 
@@ -235,10 +248,12 @@ static inline void send_private(plain_core *core, plain_slot *slot) {
     uint32_t id = draw(core, core->private, core->private_rates);
     if (core->count[id] != 0) {
         plain_packet packet = queue_pop(core, id, false);
+        core->counts[id][PLAIN_SENT]++;
         *slot = (plain_slot){packet.handle, PLAIN_REAL, id, packet.length,
                              MAX_LENGTH - packet.length};
     } else if (core->pool[id] != 0) {
         core->pool[id]--;
+        core->counts[id][PLAIN_DUMMIES]++;
         *slot = (plain_slot){.outcome = PLAIN_DUMMY, .id = id};
     } else {
         *slot = (plain_slot){.outcome = PLAIN_IDLE, .id = id};

@@ -1,4 +1,4 @@
-/* The slot core of a shared gateway (paper 01, with S-1, S-4, S-6 and S-9 of paper 02) and the fair rates of S-8, in plain C: the
+/* The slot core of a shared gateway (paper 01, with S-1, S-4, S-6, S-7 and S-9 of paper 02) and the fair rates of S-8, in plain C: the
    yardstick of the benchmark.
    Every call but tick answers 0 for accepted or the number of the first check that failed. */
 #ifndef PLAIN_H
@@ -18,6 +18,9 @@ enum { PLAIN_SHARES = 1024 };
 enum plain_type { PLAIN_INACTIVE = 0, PLAIN_INDIFFERENT = 1, PLAIN_PRIVATE = 2 };
 
 enum plain_outcome { PLAIN_NONE, PLAIN_REAL, PLAIN_DUMMY, PLAIN_IDLE };
+
+/* What is counted of a client since its join. */
+enum plain_count { PLAIN_ACCEPTED, PLAIN_SENT, PLAIN_FULL, PLAIN_DRAINED, PLAIN_EMPTIED, PLAIN_DUMMIES, PLAIN_COUNTS };
 
 /* A slot's outcome; id is set but for none, the packet only for real. */
 typedef struct {
@@ -46,6 +49,7 @@ typedef struct {
     uint8_t pool[PLAIN_CLIENTS];
     uint8_t head[PLAIN_CLIENTS];  /* ring place of the first packet, below PLAIN_DEPTH */
     uint8_t count[PLAIN_CLIENTS]; /* packets waiting, at most PLAIN_DEPTH */
+    uint64_t counts[PLAIN_CLIENTS][PLAIN_COUNTS];
     uint64_t handle[PLAIN_PLACES]; /* apart from the lengths, so that no place has unused bytes */
     uint32_t length[PLAIN_PLACES];
 

@@ -297,21 +297,19 @@ fn line(
     let end = span.end;
     let next = span.next;
     if end == text.len() {
-        let more = print_unread(audience, out, written, NO_FORM);
         return Progress {
             control,
             next,
-            written: more,
+            written: print_unread(audience, out, written, NO_FORM),
         };
     }
     let read = parser::parse(&text[at..end]);
     let Line::Form { call } = read else {
         let number = unread_number(read);
-        let more = print_unread(audience, out, written, number);
         return Progress {
             control,
             next,
-            written: more,
+            written: print_unread(audience, out, written, number),
         };
     };
     let ticked = is_tick(call);
@@ -329,11 +327,10 @@ fn line(
     let answer = answered.answer;
     let left = answered.control;
     let sample = performed.sample;
-    let more = show(audience, out, written, left, ticked, answer, sample.sum);
     Progress {
         control: left,
         next,
-        written: more,
+        written: show(audience, out, written, left, ticked, answer, sample.sum),
     }
 }
 
