@@ -9,12 +9,12 @@ use Rattle.definitions.specs.History.{History, scheduler, after}
 use Rattle.definitions.specs.Counts.{Tally, unlessUnavailable, wrapped, countSheet}
 use Rattle.definitions.specs.Counted.{countsBehind, SheetSame}
 use Rattle.definitions.specs.Sameness.{kept}
-use Rattle.definitions.proofs.Counts.{counted}
 use Rattle.definitions.proofs.Sameness.Erase.{erase, eraseCore}
 use Rattle.definitions.proofs.Sameness.Kinds.{trace}
 use Rattle.definitions.proofs.Sameness.Histories.{alike-through}
 use Rattle.definitions.proofs.Sameness.CountsAlike.{tally-same}
 use Rattle.definitions.proofs.Sameness.Theorem.{kept-behind}
+use Rattle.definitions.proofs.Counts.{counted}
 
 sheet-erased : (chosen id : ℕ) (core : Core) (counts : ℕ → Tally)
     → countSheet core counts id ≡ countSheet (eraseCore chosen core) counts id

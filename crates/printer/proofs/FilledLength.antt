@@ -95,19 +95,28 @@ pub record NarrowCounts (id : ℕ) (c : CountSheet) : Type 0 where
   pub emptied : c .emptied < 2 ^ 64
   pub dummies : c .dummies < 2 ^ 64
 
+pub record CountDigits (id : ℕ) (c : CountSheet) : Type 0 where
+  pub ids : length (decimal id) ≤ 10
+  pub accepted : length (decimal (c .accepted)) ≤ 20
+  pub sent : length (decimal (c .sent)) ≤ 20
+  pub full : length (decimal (c .full)) ≤ 20
+  pub drained : length (decimal (c .drained)) ≤ 20
+  pub emptied : length (decimal (c .emptied)) ≤ 20
+  pub dummies : length (decimal (c .dummies)) ≤ 20
+
+pub counts-digits : (id : ℕ) (c : CountSheet) → NarrowCounts id c → CountDigits id c
+counts-digits id c narrow = record {
+  ids = ten-digits id (narrow .ids);
+  accepted = twenty-digits _ (narrow .accepted);
+  sent = twenty-digits _ (narrow .sent);
+  full = twenty-digits _ (narrow .full);
+  drained = twenty-digits _ (narrow .drained);
+  emptied = twenty-digits _ (narrow .emptied);
+  dummies = twenty-digits _ (narrow .dummies);
+}
+
 -- and the line of an id and its counts
 pub counts-room : (id : ℕ) (c : CountSheet) → NarrowCounts id c → (at : ℕ) {size : ℕ} → at + lineRoom ≤ size
     → at + length (countLine id c) ≤ size
 unfolding countLine
-counts-room id c narrow at room =
-    filled-room _ _
-    (omega (
-      arith,
-      ten-digits id (narrow .ids),
-      twenty-digits _ (narrow .accepted),
-      twenty-digits _ (narrow .sent),
-      twenty-digits _ (narrow .full),
-      twenty-digits _ (narrow .drained),
-      twenty-digits _ (narrow .emptied),
-      twenty-digits _ (narrow .dummies),
-    )) at room
+counts-room id c narrow at room = filled-room _ _ (omega (arith, counts-digits id c narrow)) at room

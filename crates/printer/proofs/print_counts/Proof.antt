@@ -7,7 +7,7 @@ use native.Mathlib.Nat.{le-refl}
 use lib.ListN.{length}
 use Rattle.grammar.specs.CountLines.{countLine}
 use Rattle.printer.specs.Printed.{lineRoom}
-use Rattle.printer.proofs.FilledLength.{counts-room}
+use Rattle.printer.proofs.FilledLength.{filled-room, NarrowCounts, counts-digits, counts-room}
 use Rattle.printer.proofs.LineRoom.{roomy, unwritten, wrote}
 use Rattle.printer.proofs.print_counts.Statement.{statement}
 use Rattle.printer.proofs.print_counts.Tie as tie
@@ -31,16 +31,12 @@ slice-aggregate-put-filled c = search needs
 slice-aggregate-put-filled-2 : tie.Need-slice-aggregate-put-filled-2
 slice-aggregate-put-filled-2 c = search needs
 
--- in the room of a line, wherever it begins
-short : (c : tie.Else1) {size : ℕ} →
-    let args = c .before .before .before .args in
-    args .at + lineRoom ≤ size
-    → args .at + length (countLine (args .id) (args .counts)) ≤ size
-short c wide =
+-- the seven numbers have at most so many digits
+narrow : (c : tie.Else1) → let args = c .before .before .before .args in NarrowCounts (args .id) (args .counts)
+narrow c =
     let start = c .before .before .before in
     let f = start .good .1 .1 .1 .0 in
-    counts-room (start .args .id) (start .args .counts)
-    (record {
+    record {
       ids = omega (arith, start .fits .id);
       accepted = omega (arith, f);
       sent = omega (arith, f);
@@ -48,12 +44,12 @@ short c wide =
       drained = omega (arith, f);
       emptied = omega (arith, f);
       dummies = omega (arith, f);
-    })
-    _ wide
+    }
 
 put-filled-requires : tie.Need-put-filled-requires
-unfolding countLine
-put-filled-requires c κs = short (c .before .before .before) (room (c .before .before .before))
+put-filled-requires c κs =
+    let e = c .before .before .before in
+    filled-room _ _ (omega (arith, counts-digits _ _ (narrow e))) _ (room e)
 
 same-length : tie.Need-same-length
 same-length c = search needs
@@ -65,7 +61,7 @@ returns-2 c =
     let args = e .before .before .before .args in
     let written = c .before .before .put-filled .ensures in (
       wrote (args .out .now) (args .at) (e .before .has-room .ensures) (e .if1 .left) written,
-      omega (arith, written .place, short e (le-refl (args .at + lineRoom))),
+      omega (arith, written .place, counts-room _ _ (narrow e) (args .at) (le-refl (args .at + lineRoom))),
     )
 
 pub print-counts-spec : {M : Type 1} → statement M
