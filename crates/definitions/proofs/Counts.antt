@@ -29,7 +29,7 @@ use Rattle.definitions.specs.History.{History, start, _then_, Trace, cli
 use Rattle.definitions.specs.Traces.{indifferentBy, indifferentAt, indifferentSince}
 use Rattle.definitions.specs.Stretch.{oneIf}
 use Rattle.definitions.specs.Counts.{Count, countAccepted, countSent, count14, count15, countEmptied, countDummies, column, Tally, zeros, Entry, nothing, more, anew, entryOfDrop, keepsType, entryOfAccepted, entryOfRefused, entryOfSlot, entryOf, entered, unsettled, tallied, gained, wrapped, wrappedPlus, countsAfter, Whole, wholeNew, wholeAfter}
-use Rattle.definitions.specs.Counted.{countsBehind, wholeBehind, waitingIn, Settles, madeSo, DropsCounted, Counted}
+use Rattle.definitions.specs.Counted.{countsBehind, wholeBehind, waitingIn, Settles, madeSo, CountedAlone, DropsCounted, Counted}
 use Rattle.definitions.proofs.Laws.Tests.{T-true, true-false, eqb-cases, eqb-same, cond-both}
 use Rattle.definitions.proofs.Laws.Checked.{Passed, checked-cases}
 use Rattle.definitions.proofs.Laws.Clients.{put-same, put-other, put-cases}
@@ -518,20 +518,19 @@ refused-none core (Arrive j p) n counts other another =
     go false id count = refl
 refused-none core Tick n counts other another = refl
 
+counted-alone : (number : ℕ) (own : Count) → entryOfDrop number ≡ more own 1 → CountedAlone number own
+unfolding CountedAlone
+counted-alone number own q = λ core id p counts e. (
+  check-facts .step-refused core (Arrive id p) number e,
+  drop-own core id p counts number own q,
+  λ count ne. drop-other core id p counts number own q count (λ same. ne (column-injective count own same)),
+  drop-apart core id p counts number own q,
+)
+
 pub drops-counted : DropsCounted
 unfolding entryOfDrop
 drops-counted = record {
-  full = λ core id p counts e. (
-    check-facts .step-refused core (Arrive id p) 14 e,
-    drop-own core id p counts 14 count14 refl,
-    λ count ne. drop-other core id p counts 14 count14 refl count (λ q. ne (column-injective count count14 q)),
-    drop-apart core id p counts 14 count14 refl,
-  );
-  drained = λ core id p counts e. (
-    check-facts .step-refused core (Arrive id p) 15 e,
-    drop-own core id p counts 15 count15 refl,
-    λ count ne. drop-other core id p counts 15 count15 refl count (λ q. ne (column-injective count count15 q)),
-    drop-apart core id p counts 15 count15 refl,
-  );
+  full = counted-alone 14 count14 refl;
+  drained = counted-alone 15 count15 refl;
   others = λ core c n counts e other another. (check-facts .step-refused core c n e, refused-none core c n counts other another);
 }

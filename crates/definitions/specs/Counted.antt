@@ -41,21 +41,23 @@ madeSo id start = start
 madeSo id (h then c) =
     cond (indifferentAt id (traceOf scheduler h) && indifferentAt id (traceOf scheduler (h then c))) (madeSo id h) (h then c)
 
+-- a packet refused with a number raises one of its client's counts by one and changes nothing else: the core is as it was, and so is
+-- every other count
+unfoldable pub CountedAlone : ℕ → Count → Type 0
+CountedAlone number own =
+    (core : Core) (id : ℕ) (p : Packet) (counts : ℕ → Tally)
+    → step core (Arrive id p) .answer ≡ Refused number
+    → (step core (Arrive id p) .core ≡ core)
+    × (countsAfter core (Arrive id p) (Refused number) counts id own ≡ wrappedPlus (counts id own) 1)
+    × ((count : Count) → count ≢ own → countsAfter core (Arrive id p) (Refused number) counts id count ≡ counts id count)
+    × ((other : ℕ) (count : Count) → other ≢ id
+    → countsAfter core (Arrive id p) (Refused number) counts other count ≡ counts other count)
+
 -- what a refused call leaves of the counts
 pub record DropsCounted : Type 0 where
-  -- "A refusal 14 or 15 now changes its own count and nothing else": the core is as it was, and so is every other count.
-  pub full : (core : Core) (id : ℕ) (p : Packet) (counts : ℕ → Tally) → step core (Arrive id p) .answer ≡ Refused 14
-      → (step core (Arrive id p) .core ≡ core)
-      × (countsAfter core (Arrive id p) (Refused 14) counts id count14 ≡ wrappedPlus (counts id count14) 1)
-      × ((count : Count) → count ≢ count14 → countsAfter core (Arrive id p) (Refused 14) counts id count ≡ counts id count)
-      × ((other : ℕ) (count : Count) → other ≢ id
-      → countsAfter core (Arrive id p) (Refused 14) counts other count ≡ counts other count)
-  pub drained : (core : Core) (id : ℕ) (p : Packet) (counts : ℕ → Tally) → step core (Arrive id p) .answer ≡ Refused 15
-      → (step core (Arrive id p) .core ≡ core)
-      × (countsAfter core (Arrive id p) (Refused 15) counts id count15 ≡ wrappedPlus (counts id count15) 1)
-      × ((count : Count) → count ≢ count15 → countsAfter core (Arrive id p) (Refused 15) counts id count ≡ counts id count)
-      × ((other : ℕ) (count : Count) → other ≢ id
-      → countsAfter core (Arrive id p) (Refused 15) counts other count ≡ counts other count)
+  -- "A refusal 14 or 15 now changes its own count and nothing else."
+  pub full : CountedAlone 14 count14
+  pub drained : CountedAlone 15 count15
   -- every other refusal changes nothing, as before
   pub others : (core : Core) (c : Event) (n : ℕ) (counts : ℕ → Tally) → step core c .answer ≡ Refused n → n ≢ 14 → n ≢ 15
       → (step core c .core ≡ core) × (countsAfter core c (Refused n) counts ≡ counts)
