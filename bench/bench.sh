@@ -1,11 +1,10 @@
 #!/bin/bash
 # Benchmarks the proved slot core (libbench.a, libemptying.a) and the program slots against the plain ones, in time and instructions.
-#   bench.sh [--stub] [--calls | --lto] [--emptying | --scripts | --states] [FOLDER]
+#   bench.sh [--stub] [--calls | --lto] [--emptying | --scripts] [FOLDER]
 # Run it in the repository's root. Everything is built into FOLDER (default: target/bench). Both cores are inlined into their sequences.
 #   --stub      links stub.c in place of the two libraries, to try the benchmark itself; no scripts
 #   --emptying  only the emptying and opening
 #   --scripts   only the scripts
-#   --states    only the printed states
 #   --calls     leaves the plain core behind calls (a milder yardstick, since the proved one stays inlined)
 #   --lto       inlines the plain core, which is the default
 set -euo pipefail
@@ -20,8 +19,7 @@ for word in "$@"; do
     --lto) lto=-flto ;;
     --emptying) only=emptying ;;
     --scripts) only=scripts ;;
-    --states) only=states ;;
-    -*) echo "usage: bench.sh [--stub] [--calls | --lto] [--emptying | --scripts | --states] [FOLDER]" >&2; exit 2 ;;
+    -*) echo "usage: bench.sh [--stub] [--calls | --lto] [--emptying | --scripts] [FOLDER]" >&2; exit 2 ;;
     *) out=$word ;;
     esac
 done
@@ -53,7 +51,7 @@ find_proved() {
 # The plain core and its script program are held to the second program, on scripts (tests/README.md).
 check_plain() {
     local rust="rustc -O --edition 2021" second=$out/libsecond.rlib
-    gcc $flags $lto "$here"/{plain_slots,plain_states,plain}.c -o "$out/plain_slots"
+    gcc $flags $lto "$here"/{plain_slots,plain}.c -o "$out/plain_slots"
     $rust --crate-type lib --crate-name second second/src/lib.rs -o "$second"
     $rust --crate-type lib --crate-name tests tests/src/lib.rs --extern second="$second" -o "$out/libtests.rlib"
     $rust tests/src/compare.rs -L "$out" --extern second="$second" --extern tests="$out/libtests.rlib" -o "$out/compare"
@@ -214,54 +212,7 @@ scripts() {
         $1, $2, $4, $2 / $4, $6, $7, $6 / $7, $8, $9, $8 / $9 }'
 }
 
-# state PACKETS: a state of 64 clients, the even ids indifferent, with so many packets waiting for each and the longest numbers
-state() {
-    awk -v packets="$1" 'BEGIN {
-        print "(state 1024 0 4294967295)"
-        for (i = 0; i < 64; i++) {
-            print "(client " i (i % 2 ? " (private 16 255))" : " (indifferent 16 64 65536))")
-            printf "(counts %d %d 18446744073709551615 0 0 1 18446744073709551615)\n", i, packets
-        }
-        for (k = 0; k < packets; k++) for (i = 0; i < 64; i += 2) print wait(i, k)
-        for (i = 1; i < 64; i += 2) for (k = 0; k < packets; k++) print wait(i, k)
-        print "(end " 129 + 64 * packets ")"
-    }
-    function wait(i, k) { return "(wait " i " 18446744073709" 100000 + (i * 977 + k * 13) % 450000 " " 1500 - k ")" }'
-}
-
-# state_instructions PROGRAM ARGUMENT ..: those of the whole process, over an empty script
-state_instructions() {
-    GLIBC_TUNABLES=$by_stores:$and_moves valgrind --tool=callgrind --callgrind-out-file="$temporary/callgrind" "$@" \
-        </dev/null >/dev/null 2>"$temporary/valgrind"
-    awk '$1 == "totals:" { print $2 }' "$temporary/callgrind"
-}
-
-# Taking up alone, and with printing behind it; both also of a state without packets, so that the start of the program can be taken off.
-states() {
-    rt check slots >"$temporary/check" 2>&1 || { cat "$temporary/check" >&2; exit 1; }
-    gcc $flags "$here/programs.c" -o "$out/programs"
-    echo "| state of 64 clients | slots µs | plain µs | ratio | slots instructions | plain | ratio |"
-    echo "|---|---:|---:|---:|---:|---:|---:|"
-    local packets file=$temporary/state plain=$out/plain_slots arguments
-    for packets in 0 1 16 128; do
-        state "$packets" >"$file"
-        for arguments in "--from $file" "--from $file --state"; do
-            target/bin/slots $arguments </dev/null >"$temporary/proved"
-            "$plain" $arguments </dev/null >"$temporary/plain"
-            cmp "$temporary/proved" "$temporary/plain"
-            [ "$arguments" = "--from $file" ] || cmp "$temporary/proved" "$file"
-            echo "$packets packets each, $([ "$arguments" = "--from $file" ] && echo taken up || echo taken up and printed)|$(
-                "$out/programs" target/bin/slots "$plain" /dev/null 200 $arguments | tr ' ' '|')|$(
-                state_instructions target/bin/slots $arguments)|$(state_instructions "$plain" $arguments)"
-        done
-    done | awk -F '|' '{ printf "| %s | %d | %d | %.2f | %d | %d | %.2f |\n", $1, $2, $4, $2 / $4, $6, $7, $6 / $7 }'
-}
-
 check_plain
-if [ "$only" = states ]; then
-    states | tee "$out/states.md"
-    exit
-fi
 if [ "$only" != scripts ]; then
     find_proved
     build
@@ -271,8 +222,4 @@ fi
 if [ -z "$stub" ] && [ "$only" != emptying ]; then
     echo; echo "Scripts, from the start of the program to its end:"; echo
     scripts | tee "$out/scripts.md"
-fi
-if [ -z "$stub" ] && [ -z "$only" ]; then
-    echo; echo "Printed states, from the start of the program to its end:"; echo
-    states | tee "$out/states.md"
 fi

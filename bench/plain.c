@@ -198,11 +198,6 @@ uint32_t plain_arrive(plain_core *core, uint32_t id, uint64_t handle, uint32_t l
     return 0;
 }
 
-void plain_resume(plain_core *core, uint32_t id, uint64_t handle, uint32_t length) {
-    core->counts[id][PLAIN_ACCEPTED]++;
-    queue_push(core, id, (plain_packet){handle, length}, core->indifferent & mark(id));
-}
-
 /* Tick */
 
 static inline uint32_t step(uint32_t v) {

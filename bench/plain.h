@@ -64,8 +64,6 @@ uint32_t plain_change(plain_core *core, uint32_t id, uint32_t type, uint32_t rat
 uint32_t plain_leave(plain_core *core, uint32_t id);
 uint32_t plain_load(plain_core *core, uint32_t id, uint32_t dummies);
 uint32_t plain_arrive(plain_core *core, uint32_t id, uint64_t handle, uint32_t length);
-/* A packet of a printed state, which has paid already; there is a client and room for it. */
-void plain_resume(plain_core *core, uint32_t id, uint64_t handle, uint32_t length);
 /* Answers 0 and fills the slot, or 19. */
 uint32_t plain_tick(plain_core *core, plain_slot *slot);
 /* Answers 0 and gives each demand its rate, or 22 and gives none. */

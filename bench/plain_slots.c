@@ -1,18 +1,13 @@
-/* The script program in plain C, over the plain core: standard input to standard output. The yardstick for `slots`.
-   plain_slots [--from FILE] [--state], as `slots` has them. */
-#include <fcntl.h>
+/* The script program in plain C, over the plain core: standard input to standard output. The yardstick for `slots`. */
 #include <stdio.h>
 #include <string.h>
 #include <unistd.h>
 
 #include "plain.h"
-#include "plain_states.h"
 
 enum { TEXT_LIMIT = 60000, ROOM = 780064, NUMBERS = 3 };
 
-static char text[65536], state[PLAIN_STATE_ROOM + 1], out[ROOM];
-
-static plain_core core;
+static char text[65536], out[ROOM];
 
 /* Reads what a form's pattern says, # for a number and @ for a handle; answers 0, 16 or 17, shape before size. */
 static int match(const char *pattern, const char *at, const char *end, uint64_t *numbers) {
@@ -74,75 +69,63 @@ static char *put_slot(char *to, const plain_slot *slot) {
 }
 
 /* The forms that begin with the line's second byte; the first that fits is carried out. */
-static char *line(const char *at, const char *end, char *to) {
+static char *line(plain_core *core, const char *at, const char *end, char *to) {
     uint64_t n[NUMBERS]; /* none but a handle has more than 32 bits where its form fits */
     int bad = 16;
     switch (end - at > 3 ? at[1] : 0) {
     case 'a':
         if ((bad = match("(arrive # (packet @ #))", at, end, n)) == 0)
-            return put_answer(to, plain_arrive(&core, n[0], n[1], n[2]));
+            return put_answer(to, plain_arrive(core, n[0], n[1], n[2]));
         break;
     case 't':
         if ((bad = match("(tick)", at, end, n)) == 0) {
             plain_slot slot;
-            uint32_t refused = plain_tick(&core, &slot);
+            uint32_t refused = plain_tick(core, &slot);
             return refused ? put_answer(to, refused) : put_slot(to, &slot);
         }
         break;
     case 'o':
-        if ((bad = match("(open # # #)", at, end, n)) == 0) return put_answer(to, plain_open(&core, n[0], n[1], n[2]));
+        if ((bad = match("(open # # #)", at, end, n)) == 0) return put_answer(to, plain_open(core, n[0], n[1], n[2]));
         break;
     case 'j':
-        if ((bad = match("(join # (private #))", at, end, n)) == 0) return put_answer(to, plain_join(&core, n[0], 2, n[1], 0));
+        if ((bad = match("(join # (private #))", at, end, n)) == 0) return put_answer(to, plain_join(core, n[0], 2, n[1], 0));
         if (bad == 17) break;
         if ((bad = match("(join # (indifferent # #))", at, end, n)) == 0)
-            return put_answer(to, plain_join(&core, n[0], 1, n[1], n[2]));
+            return put_answer(to, plain_join(core, n[0], 1, n[1], n[2]));
         break;
     case 'c':
-        if ((bad = match("(change # (private #))", at, end, n)) == 0) return put_answer(to, plain_change(&core, n[0], 2, n[1], 0));
+        if ((bad = match("(change # (private #))", at, end, n)) == 0) return put_answer(to, plain_change(core, n[0], 2, n[1], 0));
         if (bad == 17) break;
         if ((bad = match("(change # (indifferent # #))", at, end, n)) == 0)
-            return put_answer(to, plain_change(&core, n[0], 1, n[1], n[2]));
+            return put_answer(to, plain_change(core, n[0], 1, n[1], n[2]));
         break;
     case 'l':
-        if ((bad = match("(load # #)", at, end, n)) == 0) return put_answer(to, plain_load(&core, n[0], n[1]));
+        if ((bad = match("(load # #)", at, end, n)) == 0) return put_answer(to, plain_load(core, n[0], n[1]));
         if (bad == 17) break;
-        if ((bad = match("(leave #)", at, end, n)) == 0) return put_answer(to, plain_leave(&core, n[0]));
+        if ((bad = match("(leave #)", at, end, n)) == 0) return put_answer(to, plain_leave(core, n[0]));
         break;
     }
     return put_answer(to, (uint32_t)bad);
 }
 
-static char *run(const char *at, const char *end, char *to) {
+static char *run(const char *at, const char *end) {
+    static plain_core core;
+    char *to = out;
     while (at < end) {
         const char *feed = memchr(at, '\n', (size_t)(end - at));
         if (feed == NULL) return put_answer(to, 16);
-        to = line(at, feed, to);
+        to = line(&core, at, feed, to);
         at = feed + 1;
     }
     return to;
 }
 
-static size_t read_all(int file, char *to, size_t room) {
+int main(void) {
     size_t length = 0;
     ssize_t got;
-    while (length < room && (got = read(file, to + length, room - length)) > 0) length += (size_t)got;
-    return length;
-}
-
-int main(int argc, char **argv) {
-    int from = argc > 2 && strcmp(argv[1], "--from") == 0, print = argc > 1 && strcmp(argv[argc - 1], "--state") == 0;
-    char *to = out;
-    if (from) {
-        size_t length = read_all(open(argv[2], O_RDONLY), state, sizeof state);
-        if (length > PLAIN_STATE_ROOM) return 1;
-        to = put_answer(to, plain_take_up(&core, state, length));
-    }
-    size_t length = read_all(0, text, sizeof text);
-    to = length > TEXT_LIMIT ? put_answer(to, 18) : run(text, text + length, to);
-    if (print) to = plain_print_state(&core, out);
-    ssize_t got;
-    for (char *at = out; at < to; at += got)
-        if ((got = write(1, at, (size_t)(to - at))) <= 0) return 1;
+    while (length < sizeof text && (got = read(0, text + length, sizeof text - length)) > 0) length += (size_t)got;
+    char *end = length > TEXT_LIMIT ? put_answer(out, 18) : run(text, text + length);
+    for (char *at = out; at < end; at += got)
+        if ((got = write(1, at, (size_t)(end - at))) <= 0) return 1;
     return 0;
 }

@@ -1,5 +1,5 @@
--- A whole script was carried out, in a buffer with room for a line: control and tables hold core and counts behind it. From an unopened core
--- on, of a "whole text over 60,000 bytes" the only line is written.
+-- A whole script was carried out, in a buffer with room for a line: control and tables hold core and counts behind it. Of a "whole text
+-- over 60,000 bytes" the only line is written.
 use Rattle.std.specs.Prelude.{ℕ, ◌≤◌, ◌<◌, ◌≡◌, List, [], length, take}
 use Rattle.definitions.specs.declared.Answer.TheVariants.{Refused}
 use Rattle.definitions.specs.Counts.{whole_new}
@@ -7,16 +7,9 @@ use Rattle.grammar.specs.Bytes.{text_limit}
 use Rattle.grammar.specs.Printout.{printed, whole_from}
 use Rattle.printer.specs.Printed.{line_room}
 use Rattle.script.specs.declared.Progress.{Progress}
-use Rattle.tables.specs.declared.Control.{Control}
 use Rattle.tables.specs.Tables.{Tables}
 use Rattle.tables.specs.Meaning.{whole_of}
 use Rattle.tables.specs.Invariant.{Valid}
-
--- on the core of control c and tables t; without room for a line nothing is done
-pub record CarriedOn (text : List ℕ) (c : Control) (t : Tables) (out : List ℕ) (r : Control) (u : Tables) : Type 0 where
-  pub valid : Valid r u
-  pub left : line_room ≤ length out → whole_of r u ≡ whole_from (whole_of c t) [] text
-  pub bare : length out < line_room → (r ≡ c) × (u ≡ t)
 
 pub record CarriedOut (text out : List ℕ) (r : Progress) (u : Tables) : Type 0 where
   pub valid : Valid r.control u

@@ -9,15 +9,14 @@ use native.Mathlib.Omega.{arith}
 use lib.Dec.{T, eqb, leb, lit<}
 use borrow.Author.Tests.{eqb-false, eq-eqb, ne_eqb, leb-true}
 use Rattle.definitions.specs.declared.Packet.{Packet}
-use Rattle.definitions.specs.Event.{Event, Open, Join, Change, Leave, Load, Arrive, Tick, TakeUp, HandOver}
-use Rattle.definitions.specs.Sizes.{places, handle_limit, shares}
+use Rattle.definitions.specs.Event.{Event, Open, Join, Change, Leave, Load, Arrive, Tick}
+use Rattle.definitions.specs.Sizes.{shares}
 use Rattle.definitions.specs.Client.{Client, is_indifferent, nobody, joining, changed, charged, refilled}
 use Rattle.definitions.specs.Stock.{bare, loaded}
 use Rattle.definitions.specs.State.{State, Core, unopened, running, fresh, updated, put, stocked, emptied}
 use Rattle.definitions.specs.Answers.{is_accepted}
 use Rattle.definitions.specs.Checks.{Check, accepted, checked, unchanged, open_checks, active_checks, join_checks, change_checks, leave_checks, load_checks, arrive_checks}
 use Rattle.definitions.specs.Calls.{on_open, on_join, side_after_change, on_change, on_leave, on_load, side_after_arrival, on_arrive}
-use Rattle.definitions.specs.TakingUp.{taken, take_up_checks, on_take_up_in, on_hand_over}
 use Rattle.definitions.specs.Tick.{on_tick}
 use Rattle.definitions.specs.Core.{step}
 use Rattle.definitions.specs.History.{History, start, ◌then◌, after, answer_at, dealing_at, trace_of, client_of}
@@ -141,7 +140,7 @@ pub step-moved : (core : Core) (id : ℕ) (c : Event)
     (client_of core id)
     (client_of (step core c).core id)
 unfolding step client_of updated resets is_offer is_open is_setting is_arrival is_tick names
-    on_open on_join on_change on_leave on_load on_arrive on_tick on_take_up_in on_hand_over is_accepted
+    on_open on_join on_change on_leave on_load on_arrive on_tick
 step-moved unopened id c indifferently spared = absurd indifferently
 step-moved (running s) id (Open threshold discipline seed) indifferently spared =
     checked-moved s id true false (open_checks threshold discipline seed) (fresh threshold discipline seed)
@@ -173,11 +172,6 @@ step-moved (running s) id (Arrive other p) indifferently spared =
     (λ passed kept. arrive_moved s id other p indifferently passed)
     spared
 step-moved (running s) id Tick indifferently spared = tick_moved s id indifferently
-step-moved (running s) id (TakeUp lines) indifferently spared =
-    checked-moved s id true false (take_up_checks places handle_limit lines) (taken lines)
-    (λ passed kept. absurd (true≢false kept))
-    spared
-step-moved (running s) id HandOver indifferently spared = absurd spared
 
 -- a stretch without its last call
 pub calm_before : (core : Core) (id : ℕ) (h : History) (c : Event)

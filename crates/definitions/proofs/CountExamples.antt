@@ -3,7 +3,7 @@ use mathlib.Core.Path.{refl}
 use Rattle.definitions.specs.Sizes.{count_span}
 use Rattle.definitions.specs.Checks.{first_failed}
 use Rattle.definitions.specs.History.{after, answer_at, dealing_at, trace_of}
-use Rattle.definitions.specs.Traces.{is_take_up, took_up, indifferent_by, indifferent_since}
+use Rattle.definitions.specs.Traces.{indifferent_by, indifferent_since}
 use Rattle.definitions.specs.Counts.{column, entry_of_drop, entry_of_accepted, entry_of_refused, entry_of_slot, entry_of, entered, gained, wrapped, wrapped_plus, counts_after, sheet_of, count_sheet}
 use Rattle.definitions.specs.Counted.{counts_behind}
 use Rattle.definitions.specs.Sameness.{is_struck, kept}
@@ -12,7 +12,7 @@ use Rattle.definitions.proofs.Everything.{everything}
 
 -- what the examples compute with
 unfoldable computed : Type 0
-unfolding everything count_span first_failed after answer_at dealing_at trace_of is_take_up took_up indifferent_by indifferent_since is_struck kept
+unfolding everything count_span first_failed after answer_at dealing_at trace_of indifferent_by indifferent_since is_struck kept
     column entry_of_drop entry_of_accepted entry_of_refused entry_of_slot entry_of entered gained wrapped wrapped_plus counts_after sheet_of count_sheet
     counts_behind
 computed = Unit {0}

@@ -1,14 +1,13 @@
 -- The count sheets are what the calls since the join say. What waits is what was accepted and neither sent nor emptied out, by cases
--- over the calls, and modulo 2 to the power 64 where a printed state was taken up; the rest follows from it by induction over the
--- history. Assumes nothing.
-use Prim.Native.Nat.{ℕ, zero, suc, ◌+◌, ◌-◌, ◌%◌, ◌<◌}
-use mathlib.Core.Path.{◌≡◌, refl, sym, ap, ap₂, subst, ◌∙◌, fun_ext}
+-- over the calls; the rest follows from it by induction over the history. Assumes nothing.
+use Prim.Native.Nat.{ℕ, zero, suc, ◌+◌, ◌%◌, ◌<◌}
+use mathlib.Core.Path.{◌≡◌, refl, sym, ap, ap₂, ◌∙◌, fun_ext}
 use mathlib.Core.Logic.{◌≢◌}
-use mathlib.Core.Bool.{Bool, true, false, cond, not, ◌&&◌, ◌||◌}
+use mathlib.Core.Bool.{Bool, true, false, cond, not, ◌&&◌}
 use mathlib.Core.List.{List, [], ◌∷◌, tail}
 use native.Mathlib.Omega.{arith}
-use native.Mathlib.Nat.{mod-add-mod, add-mod, add-mod_right, zero-mod, mod-eq_of_lt, mod-lt}
-use lib.Dec.{T, eqb, lit<}
+use native.Mathlib.Nat.{mod-add-mod, add-mod, zero-mod, mod-eq_of_lt}
+use lib.Dec.{T, eqb}
 use lib.ListN.{length}
 use borrow.Author.Tests.{eqb-true, ne_eqb, not-true}
 use Rattle.definitions.specs.declared.Packet.{Packet}
@@ -16,39 +15,33 @@ use Rattle.definitions.specs.declared.Outcome.{Outcome}
 use Rattle.definitions.specs.declared.Outcome.TheVariants.{Real, Dummy, Idle, None}
 use Rattle.definitions.specs.declared.Answer.{Answer}
 use Rattle.definitions.specs.declared.Answer.TheVariants.{Accepted, Refused, Slot}
-use Rattle.definitions.specs.declared.CountSheet.{CountSheet}
-use Rattle.definitions.specs.declared.StateLine.{StateLine}
-use Rattle.definitions.specs.Event.{Event, Open, Join, Change, Leave, Load, Arrive, Tick, TakeUp, HandOver}
-use Rattle.definitions.specs.Sizes.{places, handle_limit, indifferent_kind, count_span}
+use Rattle.definitions.specs.Event.{Event, Open, Join, Change, Leave, Load, Arrive, Tick}
+use Rattle.definitions.specs.Sizes.{indifferent_kind, count_span}
 use Rattle.definitions.specs.Client.{Kind, absent, indifferent, private, Client, is_active, is_indifferent, kind_of, same_kind, nobody, joining, changed, charged}
 use Rattle.definitions.specs.Stock.{Stock, bare, loaded, queued, spent}
 use Rattle.definitions.specs.State.{Side, State, Core, unopened, running, fresh, updated, put, stocked, emptied}
 use Rattle.definitions.specs.Answers.{is_accepted}
 use Rattle.definitions.specs.Checks.{Result, Check, accepted, checked, unchanged, open_checks, term_checks, join_checks, active_checks, change_checks, leave_checks, load_checks, arrive_checks}
 use Rattle.definitions.specs.Calls.{on_open, on_join, side_after_change, on_change, on_leave, on_load, side_after_arrival, on_arrive}
-use Rattle.definitions.specs.TakingUp.{taken, taken_sheet, take_up_checks, on_take_up_in, on_hand_over}
 use Rattle.definitions.specs.Tick.{Rule, rule1, rule2, rule3, turn, without_packet, sent_from, sent, outcome_by, stocks_after, side_after, slotted, on_tick}
 use Rattle.definitions.specs.Core.{step}
 use Rattle.definitions.specs.History.{History, start, ◌then◌, Trace, client_of, stock_of, scheduler, after, answer_at, dealing_at, trace_of}
-use Rattle.definitions.specs.Traces.{is_take_up, took_up, took_up_ever, indifferent_by, indifferent_at, indifferent_since}
+use Rattle.definitions.specs.Traces.{indifferent_by, indifferent_at, indifferent_since}
 use Rattle.definitions.specs.Stretch.{one_if}
-use Rattle.definitions.specs.Counts.{Count, count_accepted, count_sent, count14, count15, count_emptied, count_dummies, column, Tally, zeros, tally_of, Entry, nothing, more, anew, resume, entry_of_drop, keeps_type, entry_of_accepted, entry_of_refused, entry_of_slot, entry_of, entered, unsettled, tallied, gained, wrapped, wrapped_plus, counts_after, Whole, whole_new, whole_after}
+use Rattle.definitions.specs.Counts.{Count, count_accepted, count_sent, count14, count15, count_emptied, count_dummies, column, Tally, zeros, Entry, nothing, more, anew, entry_of_drop, keeps_type, entry_of_accepted, entry_of_refused, entry_of_slot, entry_of, entered, unsettled, tallied, gained, wrapped, wrapped_plus, counts_after, Whole, whole_new, whole_after}
 use Rattle.definitions.specs.Counted.{counts_behind, whole_behind, waiting_in, Settles, made_so, CountedAlone, DropsCounted, Counted}
-use Rattle.definitions.specs.Limits.{CoreLimits, Limits}
-use Rattle.definitions.proofs.Laws.Tests.{T_true, true-false, and_both, or-false, eqb-cases, eqb_same, cond_both}
-use Rattle.definitions.proofs.Laws.Checked.{Passed, checked-cases, refused_differs}
+use Rattle.definitions.proofs.Laws.Tests.{T_true, true-false, eqb-cases, eqb_same, cond_both}
+use Rattle.definitions.proofs.Laws.Checked.{Passed, checked-cases}
 use Rattle.definitions.proofs.Laws.Clients.{put_same, put_other, put-cases}
 use Rattle.definitions.proofs.Laws.Kinds.{kind_of_indifferent}
 use Rattle.definitions.proofs.Facts.{check_facts}
-use Rattle.definitions.proofs.Limits.{limits}
-use Rattle.definitions.proofs.TakingUp.Sheets.{CountsLow, waiting_low, SheetsHold, taken_sheets}
 use Rattle.definitions.proofs.Laws.Rules.{sent-cases}
 use Rattle.definitions.proofs.Stretches.Waiting.{waits, load_waits, arrive_waits}
 use Rattle.definitions.proofs.Sameness.Kinds.{trace, holds_indifferent, indifferent_held}
 
 -- ---- What waits.
 
--- "Accepted equals sent plus emptied plus waiting", to the packet
+-- "Accepted equals sent plus emptied plus waiting."
 abbrev Balanced : Tally → ℕ → Type 0
 Balanced tally waiting = tally count_accepted ≡ tally count_sent + tally count_emptied + waiting
 
@@ -85,7 +78,7 @@ module _ (id : ℕ) (tally : Tally) where
       go false true = balanced
       go false false = balanced
 
--- ---- Any call on an opened core, but that a printed state is taken up.
+-- ---- Six calls.
 
 module _ (s : State) (id : ℕ) (tally : Tally) (balanced : Balanced tally (waits (running s) id)) where
   abbrev i : Bool
@@ -107,8 +100,6 @@ module _ (s : State) (id : ℕ) (tally : Tally) (balanced : Balanced tally (wait
   refused_settled (Arrive j p) n =
       own_cases id tally j (entry_of_drop n) w (λ e. dropped id tally n w balanced) (λ ne. balanced)
   refused_settled Tick n = balanced
-  refused_settled (TakeUp lines) n = balanced
-  refused_settled HandOver n = balanced
 
   checked_settled : (c : Event) (cs : List Check) (made : State)
       → (Passed cs → Settled c (accepted made))
@@ -189,93 +180,90 @@ module _ (s : State) (id : ℕ) (tally : Tally) (balanced : Balanced tally (wait
       go rule2 = picked_settled (turn s).id
       go rule3 = balanced
 
-  running_settled : (c : Event) → (is_accepted (step (running s) c).answer && is_take_up c) ≡ false → Settled c (step (running s) c)
-  unfolding step on_open on_join on_change on_leave on_load on_arrive on_take_up_in on_hand_over updated stocked emptied fresh side_after_arrival
-      entry_of entry_of_accepted entered column waits stock_of is_accepted is_take_up
-  running_settled (Open t d v) other = checked_settled (Open t d v) (open_checks t d v) _ (λ passed. fresh_settled)
+  running_settled : (c : Event) → Settled c (step (running s) c)
+  unfolding step on_open on_join on_change on_leave on_load on_arrive updated stocked emptied fresh side_after_arrival
+      entry_of entry_of_accepted entered column waits stock_of
+  running_settled (Open t d v) = checked_settled (Open t d v) (open_checks t d v) _ (λ passed. fresh_settled)
     where
       fresh_settled : Balanced (entered ◌+◌ anew tally) 0
       fresh_settled = refl
-  running_settled (Join j k r b) other =
+  running_settled (Join j k r b) =
       checked_settled (Join j k r b) (join_checks s j k r b) _ (λ passed. anew_settled j bare refl)
-  running_settled (Change j k r b) other =
+  running_settled (Change j k r b) =
       checked_settled (Change j k r b) (change_checks s j k r b) _ (change_settled j k r b)
-  running_settled (Leave j) other = checked_settled (Leave j) (leave_checks s j) _ (λ passed. anew_settled j bare refl)
-  running_settled (Load j n) other =
+  running_settled (Leave j) = checked_settled (Leave j) (leave_checks s j) _ (λ passed. anew_settled j bare refl)
+  running_settled (Load j n) =
       checked_settled (Load j n) (load_checks s j n) _ (λ passed. rw (load_waits s id j n) unmoved)
     where
       unmoved : Balanced (entered ◌+◌ nothing tally) w
       unmoved = balanced
-  running_settled (Arrive j p) other =
+  running_settled (Arrive j p) =
       checked_settled (Arrive j p) (arrive_checks s j p) _ (λ passed. rw (arrive_waits s id j p) (arrived (eqb j id)))
     where
       arrived : (own : Bool) → Balanced (entered ◌+◌ (cond own (more count_accepted 1) nothing) tally) (one_if own w)
       arrived true = omega arith
       arrived false = balanced
-  running_settled Tick other = tick_settled
-  running_settled (TakeUp lines) other =
-      checked-cases (λ r. (is_accepted r.answer && true) ≡ false → Settled (TakeUp lines) r)
-      (take_up_checks places handle_limit lines) (unchanged (running s)) (accepted (taken lines))
-      (λ n refused. refused_settled (TakeUp lines) n) (λ passed refused. true-false refl refused) other
-  running_settled HandOver other = unmoved
-    where
-      unmoved : Balanced (entered ◌+◌ nothing tally) w
-      unmoved = balanced
+  running_settled Tick = tick_settled
 
--- ---- Any call, and histories in which none is taken up.
+-- ---- Any call, and histories.
 
 module _ (id : ℕ) where
-  unopened_settled : (tally : Tally) → Balanced tally 0 → (c : Event) → (is_accepted (step unopened c).answer && is_take_up c) ≡ false
+  unopened_settled : (tally : Tally) → Balanced tally 0 → (c : Event)
       → Balanced (entered ◌+◌ (entry_of id false 0 c (step unopened c).answer) tally) (waits (step unopened c).core id)
-  unfolding step on_open on_take_up_in on_hand_over fresh entry_of entry_of_accepted entry_of_refused entry_of_drop entered waits stock_of
-      is_accepted is_take_up
-  unopened_settled tally b (Open t d v) other =
+  unfolding step on_open fresh entry_of entry_of_accepted entry_of_refused entry_of_drop entered waits stock_of
+  unopened_settled tally b (Open t d v) =
       checked-cases
       (λ r. Balanced (entered ◌+◌ (entry_of id false 0 (Open t d v) r.answer) tally) (waits r.core id))
       (open_checks t d v) (unchanged unopened) (accepted (fresh t d v)) (λ n. b) (λ passed. refl)
-  unopened_settled tally b (Join j k r burst) other = b
-  unopened_settled tally b (Change j k r burst) other = b
-  unopened_settled tally b (Leave j) other = b
-  unopened_settled tally b (Load j n) other = b
-  unopened_settled tally b (Arrive j p) other = own_cases id tally j nothing 0 (λ e. b) (λ ne. b)
-  unopened_settled tally b Tick other = b
-  unopened_settled tally b (TakeUp lines) other =
-      checked-cases
-      (λ r. (is_accepted r.answer && true) ≡ false
-      → Balanced (entered ◌+◌ (entry_of id false 0 (TakeUp lines) r.answer) tally) (waits r.core id))
-      (take_up_checks places handle_limit lines) (unchanged unopened) (accepted (taken lines))
-      (λ n refused. b) (λ passed refused. true-false refl refused) other
-  unopened_settled tally b HandOver other = b
+  unopened_settled tally b (Join j k r burst) = b
+  unopened_settled tally b (Change j k r burst) = b
+  unopened_settled tally b (Leave j) = b
+  unopened_settled tally b (Load j n) = b
+  unopened_settled tally b (Arrive j p) = own_cases id tally j nothing 0 (λ e. b) (λ ne. b)
+  unopened_settled tally b Tick = b
 
   core_settled : (core : Core) (tally : Tally) → Balanced tally (waits core id) → (c : Event)
-      → (is_accepted (step core c).answer && is_take_up c) ≡ false
       → Balanced (entered ◌+◌ (entry_of id (is_indifferent (client_of core id).kind) (waits core id) c (step core c).answer) tally)
       (waits (step core c).core id)
   unfolding client_of waits stock_of
-  core_settled unopened tally b c other = unopened_settled tally b c other
-  core_settled (running s) tally b c other = running_settled s id tally b c other
+  core_settled unopened tally b c = unopened_settled tally b c
+  core_settled (running s) tally b c = running_settled s id tally b c
+
+  -- the entry of a call goes by the core before it as it goes by the calls before it
+  entry_same : (h : History) → Balanced (tallied id (trace h)) (waits (after scheduler h) id) → (c : Event) (a : Answer)
+      → entry_of id (indifferent_at id (trace h)) (unsettled (tallied id (trace h))) c a
+      ≡ entry_of id (is_indifferent (client_of (after scheduler h) id).kind) (waits (after scheduler h) id) c a
+  unfolding holds_indifferent
+  entry_same h b c a =
+      ap₂ (λ (i : Bool) (w : ℕ). entry_of id i w c a) (indifferent_held id h)
+      (let left : unsettled (tallied id (trace h)) ≡ waits (after scheduler h) id = omega arith in left)
+
+  pub settled : (h : History) → Balanced (tallied id (trace h)) (waits (after scheduler h) id)
+  unfolding tallied trace_of dealing_at answer_at after waits stock_of
+  settled start = refl
+  settled (h then c) =
+      rw (entry_same h (settled h) c (step (after scheduler h) c).answer)
+      (core_settled (after scheduler h) (tallied id (trace h)) (settled h) c)
 
 -- ---- Counts that wrap.
 
--- an entry of counts of 64 bits
-abbrev Narrow : Entry → Type 0
-Narrow nothing = Unit {0}
-Narrow (more one n) = Unit {0}
-Narrow anew = Unit {0}
-Narrow (resume taken) = (count : Count) → taken count < count_span
-
-entered-wrapped : (e : Entry) → Narrow e → (kept tally : Tally) → ((count : Count) → kept count ≡ wrapped (tally count))
-    → (count : Count)
+entered-wrapped : (e : Entry) (kept tally : Tally) → ((count : Count) → kept count ≡ wrapped (tally count)) → (count : Count)
     → entered wrapped_plus e kept count ≡ wrapped (entered ◌+◌ e tally count)
 unfolding entered wrapped wrapped_plus
-entered-wrapped nothing narrow kept tally same count = same count
-entered-wrapped (more one n) narrow kept tally same count = go (eqb (column count) (column one))
+entered-wrapped nothing kept tally same count = same count
+entered-wrapped (more one n) kept tally same count = go (eqb (column count) (column one))
   where
     go : (b : Bool) → cond b ((kept count + n) % count_span) (kept count) ≡ (cond b (tally count + n) (tally count)) % count_span
     go true = rw (same count) (mod-add-mod (tally count) count_span n)
     go false = same count
-entered-wrapped anew narrow kept tally same count = sym (zero-mod count_span)
-entered-wrapped (resume taken) narrow kept tally same count = sym (mod-eq_of_lt (narrow count))
+entered-wrapped anew kept tally same count = sym (zero-mod count_span)
+
+kept-wrapped : (h : History) (id : ℕ) (count : Count) → counts_behind h id count ≡ wrapped (tallied id (trace h) count)
+unfolding counts_behind counts_after tallied trace_of dealing_at answer_at wrapped waits stock_of
+kept-wrapped start id count = sym (zero-mod count_span)
+kept-wrapped (h then c) id count =
+    rw (entry_same id h (settled id h) c (step (after scheduler h) c).answer)
+    (entered-wrapped _ (counts_behind h id) (tallied id (trace h)) (kept-wrapped h id) count)
 
 -- a sum of remainders
 wrapped_sum : (a b w : ℕ) → wrapped (a + b + w) ≡ wrapped (wrapped a + wrapped b + w)
@@ -285,112 +273,11 @@ wrapped_sum a b w =
     ∙ ap (λ (x : ℕ). (x + w) % count_span) (add-mod a b count_span)
     ∙ mod-add-mod (a % count_span + b % count_span) count_span w
 
-wrapped_low : (n : ℕ) → wrapped n < count_span
-unfolding wrapped count_span
-wrapped_low n = mod-lt n (lit< tt)
-
--- ---- A printed state that is taken up.
-
-module _ (id : ℕ) (i : Bool) (w : ℕ) where
-  drop_narrow : (n : ℕ) → Narrow (entry_of_drop n)
-  unfolding entry_of_drop
-  drop_narrow n = cond_both Narrow (eqb n 14) tt (cond_both Narrow (eqb n 15) tt tt)
-
-  refused_narrow : (c : Event) (n : ℕ) → Narrow (entry_of_refused id i w c n)
-  unfolding entry_of_refused
-  refused_narrow (Open t d v) n = tt
-  refused_narrow (Join j k r b) n = tt
-  refused_narrow (Change j k r b) n = tt
-  refused_narrow (Leave j) n = tt
-  refused_narrow (Load j m) n = tt
-  refused_narrow (Arrive j p) n = cond_both Narrow (eqb j id) (drop_narrow n) tt
-  refused_narrow Tick n = tt
-  refused_narrow (TakeUp lines) n = tt
-  refused_narrow HandOver n = tt
-
-  slot_narrow : (o : Outcome) → Narrow (entry_of_slot id i w o)
-  unfolding entry_of_slot
-  slot_narrow (Real j p added) = cond_both Narrow (eqb j id) tt tt
-  slot_narrow (Dummy j) = cond_both Narrow (eqb j id) tt tt
-  slot_narrow (Idle j) = tt
-  slot_narrow None = tt
-
-  accepted_narrow : (c : Event)
-      → ((lines : List StateLine) → c ≡ TakeUp lines → (count : Count) → tally_of (taken_sheet lines id) count < count_span)
-      → Narrow (entry_of_accepted id i w c)
-  unfolding entry_of_accepted
-  accepted_narrow (Open t d v) low = tt
-  accepted_narrow (Join j k r b) low = cond_both Narrow (eqb j id) tt tt
-  accepted_narrow (Change j k r b) low = cond_both Narrow (eqb j id) (cond_both Narrow (keeps_type i k) tt tt) tt
-  accepted_narrow (Leave j) low = cond_both Narrow (eqb j id) tt tt
-  accepted_narrow (Load j n) low = tt
-  accepted_narrow (Arrive j p) low = cond_both Narrow (eqb j id) tt tt
-  accepted_narrow Tick low = tt
-  accepted_narrow (TakeUp lines) low = low lines refl
-  accepted_narrow HandOver low = tt
-
--- the sheets that lines give which are taken up
-took_sheets : (core : Core) (lines : List StateLine) → (step core (TakeUp lines)).answer ≡ Accepted → SheetsHold lines
-unfolding step on_take_up_in take_up_checks
-took_sheets core lines =
-    checked-cases (λ r. r.answer ≡ Accepted → SheetsHold lines) (take_up_checks places handle_limit lines) (unchanged core)
-    (accepted (taken lines))
-    (λ n e. absurd (refused_differs refl e))
-    (λ passed e. taken_sheets lines passed.0 passed.1.0)
-
-sheet_narrow : (c : CountSheet) → CountsLow c → (count : Count) → tally_of c count < count_span
-unfolding tally_of
-sheet_narrow c low count_accepted = low.accepted
-sheet_narrow c low count_sent = low.sent
-sheet_narrow c low count14 = low.full
-sheet_narrow c low count15 = low.drained
-sheet_narrow c low count_emptied = low.emptied
-sheet_narrow c low count_dummies = low.dummies
-
--- what any call enters
-step_narrow : (id : ℕ) (i : Bool) (w : ℕ) (core : Core) (c : Event) → Narrow (entry_of id i w c (step core c).answer)
-unfolding entry_of
-step_narrow id i w core c = go (step core c).answer refl
-  where
-    go : (a : Answer) → (step core c).answer ≡ a → Narrow (entry_of id i w c a)
-    go Accepted e =
-        accepted_narrow id i w c (λ lines q. sheet_narrow (taken_sheet lines id) ((took_sheets core lines (rw q at e)).low id))
-    go (Refused n) e = refused_narrow id i w c n
-    go (Slot o) e = slot_narrow id i w o
-
--- the lines of a taking up
-pub took_lines : (c : Event) → is_take_up c ≡ true → (lines : List StateLine) × (c ≡ TakeUp lines)
-unfolding is_take_up
-took_lines (Open t d v) e = true-false e refl
-took_lines (Join j k r b) e = true-false e refl
-took_lines (Change j k r b) e = true-false e refl
-took_lines (Leave j) e = true-false e refl
-took_lines (Load j n) e = true-false e refl
-took_lines (Arrive j p) e = true-false e refl
-took_lines Tick e = true-false e refl
-took_lines (TakeUp lines) e = (lines, refl)
-took_lines HandOver e = true-false e refl
-
-module _ (id : ℕ) (i : Bool) (w : ℕ) (tally : Tally) (core : Core) where
-  abbrev Resumed : Event → Type 0
-  Resumed c =
-      is_accepted (step core c).answer ≡ true
-      → Settles (entered wrapped_plus (entry_of id i w c (step core c).answer) tally) (step core c).core id
-
-  lines_settled : (lines : List StateLine) → Resumed (TakeUp lines)
-  unfolding step on_take_up_in take_up_checks is_accepted entry_of entry_of_accepted entered tally_of Settles waiting_in stock_of wrapped
-  lines_settled lines =
-      checked-cases
-      (λ r. is_accepted r.answer ≡ true
-      → Settles (entered wrapped_plus (entry_of id i w (TakeUp lines) r.answer) tally) r.core id)
-      (take_up_checks places handle_limit lines) (unchanged core) (accepted (taken lines))
-      (λ n e. true-false e refl)
-      (λ passed e. (taken_sheets lines passed.0 passed.1.0).settles id)
-
-  took_settled : (c : Event) → is_take_up c ≡ true → Resumed c
-  took_settled c e = let took = took_lines c e in subst Resumed (sym took.1) (lines_settled took.0)
-
--- ---- The counts that are kept keep to the sum, modulo 2 to the power 64, behind any call.
+kept-settled : (h : History) (id : ℕ) → Settles (counts_behind h id) (after scheduler h) id
+unfolding Settles waiting_in waits
+kept-settled h id =
+    rw (kept-wrapped h id count_accepted, kept-wrapped h id count_sent, kept-wrapped h id count_emptied, settled id h)
+    (wrapped_sum _ _ _)
 
 -- Counts that keep to the sum are those of a sheet that keeps to it to the packet, modulo 2 to the power 64.
 module _ (core : Core) (id : ℕ) (tally : Tally) (narrow : (count : Count) → tally count < count_span)
@@ -416,114 +303,20 @@ module _ (core : Core) (id : ℕ) (tally : Tally) (narrow : (count : Count) → 
   whole_wrapped count_emptied = narrow_wrapped count_emptied
   whole_wrapped count_dummies = narrow_wrapped count_dummies
 
-  abbrev entry : Event → Entry
-  entry c = entry_of id (is_indifferent (client_of core id).kind) (waits core id) c (step core c).answer
-
-  after-wrapped : (c : Event) (count : Count) → entered wrapped_plus (entry c) tally count ≡ wrapped (entered ◌+◌ (entry c) whole count)
-  after-wrapped c = entered-wrapped (entry c) (step_narrow id _ _ core c) tally whole whole_wrapped
-
-  settled_on : (c : Event) → Settles (entered wrapped_plus (entry c) tally) (step core c).core id
+  settled_on : (c : Event)
+      → Settles
+      (entered wrapped_plus (entry_of id (is_indifferent (client_of core id).kind) (waits core id) c (step core c).answer) tally)
+      (step core c).core id
   unfolding Settles waiting_in waits whole
-  settled_on c = go (is_accepted (step core c).answer && is_take_up c) refl
+  settled_on c =
+      rw (after-wrapped count_accepted, after-wrapped count_sent, after-wrapped count_emptied, core_settled id core whole refl c)
+      (wrapped_sum _ _ _)
     where
-      go : (took : Bool) → (is_accepted (step core c).answer && is_take_up c) ≡ took
-          → Settles (entered wrapped_plus (entry c) tally) (step core c).core id
-      go false e =
-          rw (after-wrapped c count_accepted, after-wrapped c count_sent, after-wrapped c count_emptied, core_settled id core whole refl c e)
-          (wrapped_sum _ _ _)
-      go true e =
-          let both = and_both (is_accepted (step core c).answer) (is_take_up c) e in
-          took_settled id _ _ tally core c both.1 both.0
+      entry : Entry
+      entry = entry_of id (is_indifferent (client_of core id).kind) (waits core id) c (step core c).answer
 
--- ---- What waits, by the counts.
-
--- of a sum that holds modulo the span, the part that is below it
-unsettled_waits : (tally : Tally) (w : ℕ) → w < count_span
-    → wrapped (tally count_accepted) ≡ wrapped (tally count_sent + tally count_emptied + w)
-    → unsettled tally ≡ w
-unfolding unsettled wrapped
-unsettled_waits tally w low same =
-    sym (mod-add-mod (tally count_accepted) count_span left)
-    ∙ ap (λ (x : ℕ). (x + left) % count_span) same
-    ∙ mod-add-mod (gone + w) count_span left
-    ∙ ap (λ (x : ℕ). x % count_span) apart
-    ∙ sym (mod-add-mod gone count_span (w + left))
-    ∙ ap (λ (x : ℕ). x % count_span) whole_span
-    ∙ add-mod_right w count_span
-    ∙ mod-eq_of_lt low
-  where
-    gone : ℕ
-    gone = tally count_sent + tally count_emptied
-
-    left : ℕ
-    left = count_span - gone % count_span
-
-    apart : gone + w + left ≡ gone + (w + left)
-    apart = omega arith
-
-    whole_span : gone % count_span + (w + left) ≡ w + count_span
-    whole_span = omega (arith, wrapped_low gone)
-
-waits_low : (core : Core) → CoreLimits core → (id : ℕ) → waits core id < count_span
-unfolding waits stock_of count_span
-waits_low unopened known id = lit< tt
-waits_low (running s) known id = waiting_low s known id
-
--- ---- Histories: what is kept is what the calls say, and keeps to the sum.
-
-record KeptSo (id : ℕ) (h : History) : Type 0 where
-  same : (count : Count) → counts_behind h id count ≡ wrapped (tallied id (trace h) count)
-  settles : Settles (counts_behind h id) (after scheduler h) id
-
-module _ (id : ℕ) where
-  left_waits : (h : History) → KeptSo id h → unsettled (tallied id (trace h)) ≡ waits (after scheduler h) id
-  unfolding Settles waiting_in waits Limits
-  left_waits h kept =
-      unsettled_waits (tallied id (trace h)) (waits (after scheduler h) id) (waits_low (after scheduler h) (limits h) id)
-      (sym (kept.same count_accepted)
-      ∙ kept.settles
-      ∙ ap₂ (λ (a b : ℕ). wrapped (a + b + waits (after scheduler h) id)) (kept.same count_sent) (kept.same count_emptied)
-      ∙ sym (wrapped_sum _ _ _))
-
-  -- the entry of a call goes by the core before it as it goes by the calls before it
-  entry_same : (h : History) → KeptSo id h → (c : Event) (a : Answer)
-      → entry_of id (indifferent_at id (trace h)) (unsettled (tallied id (trace h))) c a
-      ≡ entry_of id (is_indifferent (client_of (after scheduler h) id).kind) (waits (after scheduler h) id) c a
-  unfolding holds_indifferent
-  entry_same h kept c a =
-      ap₂ (λ (i : Bool) (w : ℕ). entry_of id i w c a) (indifferent_held id h) (left_waits h kept)
-
-  kept_so : (h : History) → KeptSo id h
-  unfolding counts_behind counts_after tallied trace_of dealing_at answer_at after Settles waiting_in stock_of wrapped waits
-  kept_so start = record { same = λ count. sym none; settles = sym none }
-    where
-      none : 0 % count_span ≡ 0
-      none = zero-mod count_span
-  kept_so (h then c) = go (kept_so h)
-    where
-      go : KeptSo id h → KeptSo id (h then c)
-      go kept = record {
-        same = λ count.
-            rw (entry_same h kept c (step (after scheduler h) c).answer)
-            (entered-wrapped _ (step_narrow id _ _ (after scheduler h) c) (counts_behind h id) (tallied id (trace h)) kept.same count);
-        settles =
-            settled_on (after scheduler h) id (counts_behind h id) (λ count. rw (kept.same count) (wrapped_low _)) kept.settles c;
-      }
-
-  -- to the packet, where no printed state was taken up
-  pub settled : (h : History) → took_up_ever (trace h) ≡ false → Balanced (tallied id (trace h)) (waits (after scheduler h) id)
-  unfolding tallied took_up_ever took_up trace_of dealing_at answer_at after waits stock_of
-  settled start none = refl
-  settled (h then c) none =
-      let apart = or-false (took_up_ever (trace h)) _ none in
-      rw (entry_same h (kept_so h) c (step (after scheduler h) c).answer)
-      (core_settled id (after scheduler h) (tallied id (trace h)) (settled h apart.0) c apart.1)
-
-kept-wrapped : (h : History) (id : ℕ) (count : Count) → counts_behind h id count ≡ wrapped (tallied id (trace h) count)
-kept-wrapped h id = (kept_so id h).same
-
-pub kept_low : (h : History) (id : ℕ) (count : Count) → counts_behind h id count < count_span
-kept_low h id count = rw (kept-wrapped h id count) (wrapped_low _)
+      after-wrapped : (count : Count) → entered wrapped_plus entry tally count ≡ wrapped (entered ◌+◌ entry whole count)
+      after-wrapped = entered-wrapped entry tally whole whole_wrapped
 
 -- core and counts behind a history, one beside the other
 pub whole_behind_lem : (h : History) → whole_behind whole_new h ≡ record { core = after scheduler h; counts = counts_behind h }
@@ -578,8 +371,6 @@ module _ (id : ℕ) (base grown fresh-grown : Tally) (count : Count)
     refused_stays (Load j m) n core e = same
     refused_stays (Arrive j p) n core e = own_adds (eqb j id) _ _ (λ own. drop_adds n)
     refused_stays Tick n core e = same
-    refused_stays (TakeUp lines) n core e = same
-    refused_stays HandOver n core e = same
 
     checked_stays : (c : Event) (cs : List Check) (made : State)
         → (Passed cs → indifferent_by id c true ≡ true → Adds (entry_of_accepted id true w c) (entry_of_accepted id true 0 c))
@@ -603,64 +394,54 @@ module _ (id : ℕ) (base grown fresh-grown : Tally) (count : Count)
     slot_adds (Idle j) = same
     slot_adds None = same
 
-    running_stays : (c : Event) → (is_accepted (step (running s) c).answer && is_take_up c) ≡ false → Stays c (step (running s) c)
-    unfolding step on_open on_join on_change on_leave on_load on_arrive on_tick on_take_up_in on_hand_over join_checks indifferent_by entry_of entry_of_accepted
-        is_accepted is_take_up entered
-    running_stays (Open t d v) other = checked_stays (Open t d v) (open_checks t d v) _ (λ passed e. true-false e refl)
-    running_stays (Join j k r b) other =
+    running_stays : (c : Event) → Stays c (step (running s) c)
+    unfolding step on_open on_join on_change on_leave on_load on_arrive on_tick join_checks indifferent_by entry_of entry_of_accepted is_accepted
+        entered
+    running_stays (Open t d v) = checked_stays (Open t d v) (open_checks t d v) _ (λ passed e. true-false e refl)
+    running_stays (Join j k r b) =
         checked_stays (Join j k r b) (join_checks s j k r b) _
         (λ passed e. own_adds (eqb j id) anew anew
         (λ own. true-false active (rw (eqb-true j id own) at (not-true (is_active (s.clients j).kind) passed.1.0))))
-    running_stays (Change j k r b) other =
+    running_stays (Change j k r b) =
         checked_stays (Change j k r b) (change_checks s j k r b) _
         (λ passed e. own_adds (eqb j id) _ _ (λ own. rw (rw own at e) same))
-    running_stays (Leave j) other =
+    running_stays (Leave j) =
         checked_stays (Leave j) (leave_checks s j) _
         (λ passed e. own_adds (eqb j id) anew anew (λ own. true-false (rw own at e) refl))
-    running_stays (Load j n) other = checked_stays (Load j n) (load_checks s j n) _ (λ passed e. same)
-    running_stays (Arrive j p) other =
+    running_stays (Load j n) = checked_stays (Load j n) (load_checks s j n) _ (λ passed e. same)
+    running_stays (Arrive j p) =
         checked_stays (Arrive j p) (arrive_checks s j p) _
         (λ passed e. own_adds (eqb j id) _ _ (λ own. more_adds count_accepted 1))
-    running_stays Tick other = λ e. slot_adds _
-    running_stays (TakeUp lines) other =
-        checked-cases (λ r. (is_accepted r.answer && true) ≡ false → Stays (TakeUp lines) r)
-        (take_up_checks places handle_limit lines) (unchanged (running s)) (accepted (taken lines))
-        (λ n refused. refused_stays (TakeUp lines) n (running s)) (λ passed refused. true-false refl refused) other
-    running_stays HandOver other = λ e. same
+    running_stays Tick = λ e. slot_adds _
 
-  core_stays : (core : Core) (w : ℕ) (c : Event) → (is_accepted (step core c).answer && is_take_up c) ≡ false
-      → is_indifferent (client_of core id).kind ≡ true
+  core_stays : (core : Core) (w : ℕ) (c : Event) → is_indifferent (client_of core id).kind ≡ true
       → cond (is_accepted (step core c).answer) (indifferent_by id c true) true ≡ true
       → Adds (entry_of id true w c (step core c).answer) (entry_of id true 0 c (step core c).answer)
   unfolding client_of
-  core_stays unopened w c other e after = true-false e refl
-  core_stays (running s) w c other e after = running_stays s w e c other after
+  core_stays unopened w c e after = true-false e refl
+  core_stays (running s) w c e after = running_stays s w e c after
 
 tally_gains : (id : ℕ) (h : History) → indifferent_at id (trace h) ≡ true → (count : Count)
     → tallied id (trace h) count ≡ tallied id (trace (made_so id h)) count + gained id (trace h) count
-unfolding tallied gained made_so took_up trace_of dealing_at answer_at indifferent_since holds_indifferent
+unfolding tallied gained made_so trace_of dealing_at answer_at indifferent_since holds_indifferent
 tally_gains id start e count = true-false e refl
 tally_gains id (h then c) e count =
-    go (λ b. tally_gains id h b count) (is_accepted (step (after scheduler h) c).answer && is_take_up c) refl
-    (indifferent_at id (trace h)) refl (indifferent_at id (trace (h then c))) e refl
+    go (λ b. tally_gains id h b count) (indifferent_at id (trace h)) refl (indifferent_at id (trace (h then c))) e refl
   where
     go : (indifferent_at id (trace h) ≡ true
         → tallied id (trace h) count ≡ tallied id (trace (made_so id h)) count + gained id (trace h) count)
-        → (took : Bool) → (is_accepted (step (after scheduler h) c).answer && is_take_up c) ≡ took
         → (before : Bool) → indifferent_at id (trace h) ≡ before → (now : Bool) → now ≡ true → indifferent_at id (trace (h then c)) ≡ now
         → tallied id (trace (h then c)) count
-        ≡ tallied id (trace (cond (not took && (before && now)) (made_so id h) (h then c))) count
-        + (cond (not took && (before && now)) (entered ◌+◌ (entry_of id before 0 c (answer_at scheduler h c)) (gained id (trace h))) zeros)
-        count
-    go grown false other true b false n f = true-false n refl
-    go grown false other true b true n f =
+        ≡ tallied id (trace (cond (before && now) (made_so id h) (h then c))) count
+        + (cond (before && now) (entered ◌+◌ (entry_of id before 0 c (answer_at scheduler h c)) (gained id (trace h))) zeros) count
+    go grown true b false n f = true-false n refl
+    go grown true b true n f =
         rw b
         (core_stays id (tallied id (trace (made_so id h))) (tallied id (trace h)) (gained id (trace h)) count
-        (grown b) (after scheduler h) (unsettled (tallied id (trace h))) c other
+        (grown b) (after scheduler h) (unsettled (tallied id (trace h))) c
         (sym (indifferent_held id h) ∙ b)
         (rw b at f))
-    go grown false other false b now n f = omega arith
-    go grown true took before b now n f = omega arith
+    go grown false b now n f = omega arith
 
 kept_gains : (h : History) (id : ℕ) → T (indifferent_at id (trace h)) → (count : Count)
     → counts_behind h id count ≡ wrapped (counts_behind (made_so id h) id count + gained id (trace h) count)
@@ -676,7 +457,7 @@ unfolding waiting_in waits counts_after
 counted = record {
   keeps = kept-wrapped;
   settles = λ h id. settled id h;
-  settles_kept = λ h id. (kept_so id h).settles;
+  settles_kept = kept-settled;
   settles_on = λ core c counts id narrow settles. settled_on core id (counts id) narrow settles c;
   gains = kept_gains;
 }
@@ -736,8 +517,6 @@ refused_none core (Arrive j p) n counts other another =
     go true id count = refl
     go false id count = refl
 refused_none core Tick n counts other another = refl
-refused_none core (TakeUp lines) n counts other another = refl
-refused_none core HandOver n counts other another = refl
 
 counted-alone : (number : ℕ) (own : Count) → entry_of_drop number ≡ more own 1 → CountedAlone number own
 unfolding CountedAlone

@@ -1,33 +1,28 @@
--- Editions that differ in their number of places make the same of a history without a 14, and without a printed state that is refused with
--- 21: the first call of which they would not is refused so in the one of fewer places. By induction over the history. Assumes nothing.
+-- Editions that differ in their number of places make the same of a history without a 14: the first call of which they would not
+-- is refused with 14 in the one of fewer places. By induction over the history. Assumes nothing.
 use Prim.Native.Nat.{ℕ, ◌+◌}
 use native.Mathlib.Omega.{arith}
 use mathlib.Core.Path.{◌≡◌, refl, sym, ap, ap₂, ◌∙◌}
 use mathlib.Core.Bool.{Bool, true, false, cond, ◌&&◌}
-use mathlib.Core.List.{List}
 use lib.Dec.{eqb, ltb}
 use lib.ListN.{length}
 use borrow.Author.Tests.{lt-ltb, ltb-true}
 use Rattle.definitions.specs.declared.Packet.{Packet}
-use Rattle.definitions.specs.Event.{Event, Open, Join, Change, Leave, Load, Arrive, Tick, TakeUp, HandOver}
-use Rattle.definitions.specs.declared.StateLine.{StateLine}
-use Rattle.definitions.specs.Sizes.{ids, places, handle_limit, shortest, longest}
+use Rattle.definitions.specs.Event.{Event, Open, Join, Change, Leave, Load, Arrive, Tick}
+use Rattle.definitions.specs.Sizes.{ids, places, shortest, longest}
 use Rattle.definitions.specs.State.{State, Core, unopened, running}
 use Rattle.definitions.specs.Client.{is_active}
 use Rattle.definitions.specs.Answers.{number}
 use Rattle.definitions.specs.Checks.{Result, accepted, refused, checked, within, active_checks}
-use Rattle.definitions.specs.StateOrder.{stands}
-use Rattle.definitions.specs.TakingUp.{taken, values_fit, take_up_checks, on_take_up_in}
 use Rattle.definitions.specs.Core.{step}
 use Rattle.definitions.specs.Tick.{turn}
 use Rattle.definitions.specs.History.{History, start, ◌then◌, Dealing, ◌and◌, after, answer_at, dealing_at, trace_of, pick_of, draws_of, scheduler_by}
-use Rattle.definitions.specs.Sameness.{is_arrival, is_take_up, names}
+use Rattle.definitions.specs.Sameness.{is_arrival, names}
 use Rattle.definitions.specs.Stretch.{is_offer}
 use Rattle.definitions.specs.Greedy.{is_refused, refused_ever}
 use Rattle.definitions.specs.Altered.{with_arrive, room_of, token_left, arrive_if}
-use Rattle.definitions.specs.Editions.{in_edition, edition, refused_state, Alike, Editions}
+use Rattle.definitions.specs.Editions.{in_edition, edition, Alike, Editions}
 use Rattle.definitions.proofs.Laws.Tests.{true-false, or-false, eqb_same}
-use Rattle.definitions.proofs.TakingUp.Editions.{values_grow}
 use Rattle.definitions.proofs.WrongVersions.{unaltered}
 
 -- One of a list of checks may be passed more easily, where it is not the one that refuses.
@@ -60,42 +55,18 @@ module _ (s : State) (id : ℕ) (p : Packet) (n more : ℕ) where
       go true true true true wider done grows e = rw (grows refl)
       go true true true false wider done grows e = true-false refl e
 
--- What is taken up where there are fewer places is taken up where there are more, and so is what is not refused with 21.
-take_up_grows : (n more : ℕ) (core : Core) (lines : List StateLine)
-    → eqb (number (on_take_up_in n handle_limit core lines).answer) 21 ≡ false
-    → on_take_up_in n handle_limit core lines ≡ on_take_up_in (n + more) handle_limit core lines
-unfolding on_take_up_in take_up_checks checked number
-take_up_grows n more core lines other =
-    go (stands lines) (values_fit n handle_limit lines) (values_fit (n + more) handle_limit lines)
-    (values_grow n handle_limit (n + more) handle_limit (omega arith) (omega arith) lines) other
-  where
-    -- what the checks 20 and 21 leave of what is done behind them
-    refusing : Bool → Bool → Result
-    refusing standing fits = cond standing (cond fits (accepted (taken lines)) (refused 21 core)) (refused 20 core)
-
-    go : (standing fits wider : Bool)
-        → (fits ≡ true → wider ≡ true)
-        → eqb (number (refusing standing fits).answer) 21 ≡ false
-        → refusing standing fits ≡ refusing standing wider
-    go false fits wider grows e = refl
-    go true true wider grows e = rw (grows refl)
-    go true false wider grows e = true-false refl e
-
 step_grows : (n more : ℕ) (core : Core) (c : Event)
     → ((id : ℕ) → (is_offer id c && eqb (number (in_edition n core c).answer) 14) ≡ false)
-    → (is_take_up c && eqb (number (in_edition n core c).answer) 21) ≡ false
     → in_edition n core c ≡ in_edition (n + more) core c
-unfolding in_edition with_arrive is_offer is_arrival is_take_up names
-step_grows n more core (Open threshold discipline seed) other another = refl
-step_grows n more core (Join id kind rate burst) other another = refl
-step_grows n more core (Change id kind rate burst) other another = refl
-step_grows n more core (Leave id) other another = refl
-step_grows n more core (Load id dummies) other another = refl
-step_grows n more unopened (Arrive id p) other another = refl
-step_grows n more (running s) (Arrive id p) other another = arrive_grows s id p n more (rw (eqb_same id) at (other id))
-step_grows n more core Tick other another = refl
-step_grows n more core (TakeUp lines) other another = take_up_grows n more core lines another
-step_grows n more core HandOver other another = refl
+unfolding in_edition with_arrive is_offer is_arrival names
+step_grows n more core (Open threshold discipline seed) other = refl
+step_grows n more core (Join id kind rate burst) other = refl
+step_grows n more core (Change id kind rate burst) other = refl
+step_grows n more core (Leave id) other = refl
+step_grows n more core (Load id dummies) other = refl
+step_grows n more unopened (Arrive id p) other = refl
+step_grows n more (running s) (Arrive id p) other = arrive_grows s id p n more (rw (eqb_same id) at (other id))
+step_grows n more core Tick other = refl
 
 step_present : (core : Core) (c : Event) → in_edition places core c ≡ step core c
 unfolding in_edition with_arrive step
@@ -107,8 +78,6 @@ step_present core (Load id dummies) = refl
 step_present unopened (Arrive id p) = refl
 step_present (running s) (Arrive id p) = unaltered.arrive s id p
 step_present core Tick = refl
-step_present core (TakeUp lines) = refl
-step_present core HandOver = refl
 
 -- two ways to deal with calls that make the same of a history and of a call behind it
 module _ {one other : Core → Event → Result} {h : History} {c : Event} (same : Alike one other h)
@@ -128,14 +97,11 @@ module _ {one other : Core → Event → Result} {h : History} {c : Event} (same
 
 grown_alike : (n more : ℕ) (h : History)
     → ((id : ℕ) → refused_ever id 14 (trace_of (edition n) h) ≡ false)
-    → refused_state (trace_of (edition n) h) ≡ false
     → Alike (in_edition n) (in_edition (n + more)) h
-unfolding after trace_of dealing_at answer_at refused_ever is_refused refused_state
-grown_alike n more start never untaken = record { traces = refl; cores = refl }
-grown_alike n more (h then c) never untaken =
-    let states = or-false (refused_state (trace_of (edition n) h)) _ untaken in
-    alike_then (grown_alike n more h (λ id. (apart id).0) states.0)
-    (step_grows n more (after (edition n) h) c (λ id. (apart id).1) states.1)
+unfolding after trace_of dealing_at answer_at refused_ever is_refused
+grown_alike n more start never = record { traces = refl; cores = refl }
+grown_alike n more (h then c) never =
+    alike_then (grown_alike n more h (λ id. (apart id).0)) (step_grows n more (after (edition n) h) c (λ id. (apart id).1))
   where
     apart : (id : ℕ)
         → (refused_ever id 14 (trace_of (edition n) h) ≡ false) × (is_refused id 14 (dealing_at (edition n) h c) ≡ false)

@@ -8,9 +8,9 @@ use native.Mathlib.Omega.{arith}
 use native.Mathlib.Nat.{le_of_eq}
 use lib.Dec.{eqb_refl}
 use borrow.Author.Tests.{eq-eqb, ne_eqb, le-leb, lt-leb, le-ltb}
-use Rattle.definitions.specs.Event.{Open, Join, Change, Leave, Load, Arrive, Tick, TakeUp, HandOver}
+use Rattle.definitions.specs.Event.{Open, Join, Change, Leave, Load, Arrive, Tick}
 use Rattle.definitions.specs.declared.Answer.TheVariants.{Accepted}
-use Rattle.definitions.specs.Sizes.{places, handle_limit, pool_limit, first_come}
+use Rattle.definitions.specs.Sizes.{pool_limit, first_come}
 use Rattle.definitions.specs.Draw.{draw}
 use Rattle.definitions.specs.Client.{kind_of, retuned, joining, changed, refilled}
 use Rattle.definitions.specs.Stock.{bare}
@@ -18,7 +18,6 @@ use Rattle.definitions.specs.State.{State, Core, unopened, running, updated, emp
 use Rattle.definitions.specs.Answers.{is_departure}
 use Rattle.definitions.specs.Checks.{Check, accepted, checked, unchanged, open_checks, term_checks, join_checks, active_checks, change_checks, leave_checks, load_checks, arrive_checks}
 use Rattle.definitions.specs.Calls.{on_open, on_join, side_after_change, on_change, on_leave, on_load, on_arrive}
-use Rattle.definitions.specs.TakingUp.{take_up_checks, on_take_up_in, on_hand_over}
 use Rattle.definitions.specs.Tick.{rule2, first_turn, turn_by, turn, outcome_by, side_after, refill_all, slotted, on_tick}
 use Rattle.definitions.specs.Core.{when_opened, step}
 use Rattle.definitions.specs.History.{client_of, stock_of, generator_of}
@@ -89,7 +88,7 @@ when_opened-kept unopened checks made n = refl
 when_opened-kept (running s) checks made n = checked-kept (checks s) (running s) (made s) n
 
 pub check_facts : CheckFacts
-unfolding step on_open on_join on_change on_leave on_load on_arrive on_tick on_take_up_in on_hand_over checked load_checks arrive_checks active_checks is_open
+unfolding step on_open on_join on_change on_leave on_load on_arrive on_tick checked load_checks arrive_checks active_checks is_open
 check_facts = record {
   arrive_full = λ s id p named active fits full. rw (named, active, fits, le-ltb _ _ (le_of_eq (sym full)));
   load_none = λ s id named k full. rw (named, k, le-leb ((s.side.stocks id).pool + 0) pool_limit (omega arith));
@@ -102,8 +101,6 @@ check_facts = record {
     | Load id dummies ↦ λ e. refl
     | Arrive id packet ↦ λ e. refl
     | Tick ↦ λ e. refl
-    | TakeUp lines ↦ λ e. cc
-    | HandOver ↦ λ e. cc
   ];
   step-refused = λ core. elim [
     | Open threshold discipline seed ↦ λ n e. checked-kept (open_checks threshold discipline seed) core _ (refused_differs e)
@@ -113,7 +110,5 @@ check_facts = record {
     | Load id dummies ↦ λ n e. when_opened-kept core (λ s. load_checks s id dummies) _ (refused_differs e)
     | Arrive id packet ↦ λ n e. when_opened-kept core (λ s. arrive_checks s id packet) _ (refused_differs e)
     | Tick ↦ elim core [ unopened ↦ λ n e. refl | running s ↦ λ n e. cc ]
-    | TakeUp lines ↦ λ n e. checked-kept (take_up_checks places handle_limit lines) core _ (refused_differs e)
-    | HandOver ↦ elim core [ unopened ↦ λ n e. refl | running s ↦ λ n e. cc ]
   ];
 }

@@ -1,21 +1,21 @@
 -- Every state that a history of numbers within their limits reaches has its generator and its handles within theirs.
 -- By induction over the history: an open's seed is not 0, a tick steps the generator or leaves it,
--- and only an arrival, or what is taken up, brings a handle.
-use Prim.Native.Nat.{ℕ, zero, suc}
+-- and only an arrival brings a handle.
+use Prim.Native.Nat.{ℕ, zero, suc, ◌≤◌}
 use mathlib.Core.Path.{◌≡◌, refl}
-use mathlib.Core.List.{List, [], ◌∷◌, tail}
+use mathlib.Core.Bool.{false≢true}
+use mathlib.Core.List.{List, [], ◌∷◌, ◌++◌, tail}
 use native.Mathlib.Omega.{arith}
 use lib.Dec.{eqb}
 use Rattle.definitions.specs.declared.Packet.{Packet}
-use Rattle.definitions.specs.Event.{Event, Open, Join, Change, Leave, Load, Arrive, Tick, TakeUp, HandOver}
-use Rattle.definitions.specs.Sizes.{places, number_limit, handle_limit, first_come}
+use Rattle.definitions.specs.Event.{Event, Open, Join, Change, Leave, Load, Arrive, Tick}
+use Rattle.definitions.specs.Sizes.{number_limit, handle_limit, first_come}
 use Rattle.definitions.specs.Draw.{draw}
 use Rattle.definitions.specs.Client.{kind_of, same_kind, Client}
 use Rattle.definitions.specs.Stock.{Stock, bare, loaded, queued, spent}
 use Rattle.definitions.specs.State.{Side, State, Core, unopened, running, fresh, updated, put, stocked, emptied}
 use Rattle.definitions.specs.Checks.{Check, accepted, checked, unchanged, open_checks, join_checks, change_checks, leave_checks, load_checks, arrive_checks}
 use Rattle.definitions.specs.Calls.{on_open, on_join, side_after_change, on_change, on_leave, on_load, side_after_arrival, on_arrive}
-use Rattle.definitions.specs.TakingUp.{taken, take_up_checks, on_take_up_in, on_hand_over}
 use Rattle.definitions.specs.Tick.{Rule, rule1, rule2, rule3, rule_of, Turn, first_turn, turn_by, turn, side_after, slotted, on_tick}
 use Rattle.definitions.specs.Core.{step}
 use Rattle.definitions.specs.History.{start, ◌then◌, scheduler, after}
@@ -27,7 +27,6 @@ use Rattle.definitions.proofs.Laws.Checked.{Passed, checked-cases}
 use Rattle.definitions.proofs.Laws.Clients.{put-cases, stocks_after-cases}
 use Rattle.definitions.proofs.Generator.{Seeded, stepped_seeded}
 use Rattle.definitions.proofs.Sample.{sample_sampled}
-use Rattle.definitions.proofs.TakingUp.Within.{seed_low, handles_push, taken-fits}
 
 -- The generator: a draw steps it, up to nine times.
 
@@ -50,6 +49,10 @@ turn_by_seeded rule2 s seeded = draw_seeded s.side.generator _ seeded
 turn_by_seeded rule3 s seeded = seeded
 
 -- The handles: a queue gains a packet at its end and loses its first.
+
+handles_push : (queue : List Packet) (p : Packet) → HandlesFit queue → HandlesFit (p ∷ []) → HandlesFit (queue ++ (p ∷ []))
+handles_push [] p fits own = own
+handles_push (q ∷ qs) p fits own = (fits.0, handles_push qs p fits.1 own)
 
 handles_tail : (queue : List Packet) → HandlesFit queue → HandlesFit (tail queue)
 handles_tail [] fits = fits
@@ -98,6 +101,12 @@ module _ (s : State) (known : StateFits s) where
       (call_fits cs clients s.side refl known.handles_high)
       (call_fits cs clients (emptied s.side id) refl (put-fits id bare tt))
 
+-- check 3 fails at 0
+seed_low : (threshold discipline seed : ℕ) → Passed (open_checks threshold discipline seed) → 1 ≤ seed
+unfolding open_checks
+seed_low threshold discipline zero passed = absurd (false≢true passed.1.1.0)
+seed_low threshold discipline (suc n) passed = omega arith
+
 fresh-fits : (threshold discipline seed : ℕ)
     → EventFits (Open threshold discipline seed)
     → Passed (open_checks threshold discipline seed)
@@ -110,8 +119,7 @@ fresh-fits threshold discipline seed fits passed = record {
 }
 
 pub step_fits : (core : Core) → CoreFits core → (c : Event) → EventFits c → CoreFits (step core c).core
-unfolding step on_open on_join on_change on_leave on_load on_arrive on_take_up_in on_hand_over take_up_checks
-    stocked emptied side_after_arrival loaded queued
+unfolding step on_open on_join on_change on_leave on_load on_arrive stocked emptied side_after_arrival loaded queued
 step_fits core known (Open threshold discipline seed) fits =
     checked-cases (λ r. CoreFits r.core) (open_checks threshold discipline seed) (unchanged core)
     (accepted (fresh threshold discipline seed))
@@ -136,12 +144,6 @@ step_fits (running s) known (Arrive id packet) fits =
     (put-fits s known id (queued (s.side.stocks id) packet)
     (handles_push (s.side.stocks id).queue packet (known.handles_high id) (fits.1, tt)))
 step_fits (running s) known Tick fits = tick_fits s known
-step_fits core known (TakeUp lines) fits =
-    checked-cases (λ r. CoreFits r.core) (take_up_checks places handle_limit lines) (unchanged core) (accepted (taken lines))
-    (λ number. known)
-    (λ passed. taken-fits lines passed.0 passed.1.0)
-step_fits unopened known HandOver fits = tt
-step_fits (running s) known HandOver fits = known
 
 pub fits : Fits
 unfolding Fits after

@@ -2,7 +2,6 @@
 
 -- laws of the definitions, cited by what follows
 pub mod Laws
-pub mod TakenClients
 pub mod Generator
 pub mod Sample
 pub mod Draw
@@ -21,13 +20,8 @@ pub mod ToldNotes
 pub mod Stretches
 pub mod Counts
 pub mod ChosenSheet
-pub mod Unsheeted
 pub mod CountExamples
 pub mod Fairness
--- printed states
-pub mod TakingUp
-pub mod HandOver
-pub mod HandOverExamples
 -- the versions that have to break the contract
 pub mod WrongVersions
 -- editions with other numbers of places

@@ -2,29 +2,26 @@
 -- Each call keeps a reading or sets it. By cases over the calls. Assumes nothing.
 use Prim.Native.Nat.{ℕ}
 use mathlib.Core.Path.{◌≡◌, refl, sym, ap, ◌∙◌}
-use mathlib.Core.Bool.{cond}
+use mathlib.Core.Bool.{Bool, true, false, cond}
 use mathlib.Core.List.{List}
 use lib.Dec.{eqb}
 use Rattle.definitions.specs.declared.Packet.{Packet}
-use Rattle.definitions.specs.declared.StateLine.{StateLine}
-use Rattle.definitions.specs.Event.{Event, Open, Join, Change, Leave, Load, Arrive, Tick, TakeUp, HandOver}
-use Rattle.definitions.specs.Sizes.{places, handle_limit}
+use Rattle.definitions.specs.Event.{Event, Open, Join, Change, Leave, Load, Arrive, Tick}
 use Rattle.definitions.specs.Client.{Client, nobody, joining, changed, charged, refilled}
 use Rattle.definitions.specs.Stock.{bare, loaded}
 use Rattle.definitions.specs.State.{State, Core, unopened, running, fresh, updated, put, stocked, emptied}
 use Rattle.definitions.specs.Answers.{is_accepted}
 use Rattle.definitions.specs.Checks.{Result, Check, checked, unchanged, accepted, open_checks, join_checks, change_checks, leave_checks, load_checks, arrive_checks}
 use Rattle.definitions.specs.Calls.{on_open, on_join, side_after_change, on_change, on_leave, on_load, side_after_arrival, on_arrive}
-use Rattle.definitions.specs.TakingUp.{taken, take_up_checks, on_take_up_in, on_hand_over}
 use Rattle.definitions.specs.Tick.{on_tick}
 use Rattle.definitions.specs.Core.{step}
 use Rattle.definitions.specs.History.{client_of}
+use Rattle.definitions.proofs.Laws.Tests.{eqb_comm}
 use Rattle.definitions.proofs.Laws.Checked.{checked-cases}
-use Rattle.definitions.proofs.Laws.Clients.{put_keeps, put_read}
+use Rattle.definitions.proofs.Laws.Clients.{put_keeps}
 use Rattle.definitions.proofs.Facts.{tick_client}
 
--- A reading of an id's client, and how an accepted call alters it: an open, join, change or leave sets it, and so does what is
--- taken up, and no other does.
+-- A reading of an id's client, and how an accepted call alters it: an open, join, change or leave sets it, and no other does.
 -- A tick's answer is its slot, and nothing is read off it.
 pub record Reading {A : Type 0} (id : ℕ) (read : Client → A) (by : Event → A → A) : Type 0 where
   pub opened : (threshold discipline seed : ℕ) (was : A) → by (Open threshold discipline seed) was ≡ read nobody
@@ -37,8 +34,6 @@ pub record Reading {A : Type 0} (id : ℕ) (read : Client → A) (by : Event →
   pub arrive : (other : ℕ) (p : Packet) (was : A) → by (Arrive other p) was ≡ was
   pub charge : (c : Client) → read (charged c) ≡ read c
   pub refill : (c : Client) → read (refilled c) ≡ read c
-  pub taken_up : (lines : List StateLine) (was : A) → by (TakeUp lines) was ≡ read ((taken lines).clients id)
-  pub handed_over : (was : A) → by HandOver was ≡ was
 
 module _ {A : Type 0} (id : ℕ) (read : Client → A) (by : Event → A → A) (reading : Reading id read by) where
   -- what is read off a call and its answer is what the core holds after it
@@ -57,22 +52,31 @@ module _ {A : Type 0} (id : ℕ) (read : Client → A) (by : Event → A → A) 
     told-checked c cs t e =
         checked-cases (Told c was) cs (unchanged (running s)) (accepted t) (λ n. refl) (λ passed. e)
 
+    -- the client at an id after one client was put
+    put_read : (other : ℕ) (c : Client) → read (put s.clients other c id) ≡ cond (eqb other id) (read c) was
+    unfolding put
+    put_read other c = rw (eqb_comm other id) (go (eqb id other))
+      where
+        go : (b : Bool) → read (cond b c (s.clients id)) ≡ cond b (read c) was
+        go true = refl
+        go false = refl
+
     told_running : (c : Event) → Told c was (step (running s) c)
-    unfolding step on_open on_join on_change on_leave on_load on_arrive on_tick on_take_up_in on_hand_over updated fresh client_of is_accepted
+    unfolding step on_open on_join on_change on_leave on_load on_arrive on_tick updated fresh client_of is_accepted
     told_running (Open t d v) =
         told-checked (Open t d v) (open_checks t d v) (fresh t d v) (sym (reading.opened t d v was))
     told_running (Join j k r b) =
         told-checked (Join j k r b) (join_checks s j k r b)
         (updated s (put s.clients j (joining k r b)) (stocked s.side j bare))
-        (put_read s.clients j (joining k r b) read id ∙ sym (reading.joined j k r b was))
+        (put_read j (joining k r b) ∙ sym (reading.joined j k r b was))
     told_running (Change j k r b) =
         told-checked (Change j k r b) (change_checks s j k r b)
         (updated s (put s.clients j (changed (s.clients j) k r b)) (side_after_change s j k))
-        (put_read s.clients j (changed (s.clients j) k r b) read id ∙ sym (reading.altered (s.clients j) j k r b was))
+        (put_read j (changed (s.clients j) k r b) ∙ sym (reading.altered (s.clients j) j k r b was))
     told_running (Leave j) =
         told-checked (Leave j) (leave_checks s j)
         (updated s (put s.clients j nobody) (emptied s.side j))
-        (put_read s.clients j nobody read id ∙ sym (reading.left j was))
+        (put_read j nobody ∙ sym (reading.left j was))
     told_running (Load j n) =
         told-checked (Load j n) (load_checks s j n)
         (updated s s.clients (stocked s.side j (loaded (s.side.stocks j) n)))
@@ -83,12 +87,9 @@ module _ {A : Type 0} (id : ℕ) (read : Client → A) (by : Event → A → A) 
         (put_keeps s.clients j (charged (s.clients j)) read (reading.charge (s.clients j)) id
         ∙ sym (reading.arrive j p was))
     told_running Tick = ap read (tick_client s id) ∙ reading.refill (s.clients id)
-    told_running (TakeUp lines) =
-        told-checked (TakeUp lines) (take_up_checks places handle_limit lines) (taken lines) (sym (reading.taken_up lines was))
-    told_running HandOver = sym (reading.handed_over was)
 
   pub told : (core : Core) (c : Event) → Told c (read (client_of core id)) (step core c)
-  unfolding client_of step on_open on_take_up_in on_hand_over is_accepted fresh
+  unfolding client_of step on_open is_accepted fresh
   told (running s) c = told_running s c
   told unopened (Open t d v) =
       checked-cases (Told (Open t d v) (read nobody)) (open_checks t d v) (unchanged unopened) (accepted (fresh t d v))
@@ -99,8 +100,3 @@ module _ {A : Type 0} (id : ℕ) (read : Client → A) (by : Event → A → A) 
   told unopened (Load j n) = refl
   told unopened (Arrive j p) = refl
   told unopened Tick = refl
-  told unopened (TakeUp lines) =
-      checked-cases (Told (TakeUp lines) (read nobody)) (take_up_checks places handle_limit lines) (unchanged unopened)
-      (accepted (taken lines))
-      (λ n. refl) (λ passed. sym (reading.taken_up lines (read nobody)))
-  told unopened HandOver = refl

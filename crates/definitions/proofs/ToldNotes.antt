@@ -17,7 +17,7 @@ use Rattle.definitions.specs.Client.{indifferent, private, is_indifferent, is_pr
 use Rattle.definitions.specs.State.{State, Core, unopened, running, updated}
 use Rattle.definitions.specs.Checks.{first_failed, active_checks}
 use Rattle.definitions.specs.Tick.{Rule, rule1, rule2, rule3, rule_of, first_turn, turn_by, turn, outcome_by, sent, refill_all, slotted, on_tick}
-use Rattle.definitions.specs.Event.{Event, Open, Join, Change, Leave, Load, Arrive, Tick, TakeUp, HandOver}
+use Rattle.definitions.specs.Event.{Event, Open, Join, Change, Leave, Load, Arrive, Tick}
 use Rattle.definitions.specs.Core.{step}
 use Rattle.definitions.specs.Sameness.{is_tick}
 use Rattle.definitions.specs.Limits.{StateLimits}
@@ -111,8 +111,6 @@ tick_event (Leave id) e = true-false e refl
 tick_event (Load id dummies) e = true-false e refl
 tick_event (Arrive id packet) e = true-false e refl
 tick_event Tick e = refl
-tick_event (TakeUp lines) e = true-false e refl
-tick_event HandOver e = true-false e refl
 
 -- a tick leaves every client's kind as it was, and so what a tenant is told of an answer and a reason
 pub seen_after : (id : ℕ) (core : Core) (answer : Answer) (reason : Reason)

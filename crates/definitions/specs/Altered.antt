@@ -1,7 +1,7 @@
 -- The calls as they are defined, but for one of them: of these the leaks of paper 01 are made, and most of its wrong versions.
 use Rattle.std.specs.Prelude.{ℕ, ◌≡◌, Bool, cond, not, ◌||◌, [], ◌∷◌, leb, ltb, length}
 use Rattle.definitions.specs.declared.Packet.{Packet}
-use Rattle.definitions.specs.Event.{Event, Open, Join, Change, Leave, Load, Arrive, Tick, TakeUp, HandOver}
+use Rattle.definitions.specs.Event.{Event, Open, Join, Change, Leave, Load, Arrive, Tick}
 use Rattle.definitions.specs.declared.Answer.TheVariants.{Slot}
 use Rattle.definitions.specs.Sizes.{places, shares, shortest, longest}
 use Rattle.definitions.specs.State.{State, Core, running, updated, put}
@@ -36,8 +36,6 @@ with_arrive arrive core (Change id kind rate burst) = step core (Change id kind 
 with_arrive arrive core (Leave id) = step core (Leave id)
 with_arrive arrive core (Load id dummies) = step core (Load id dummies)
 with_arrive arrive core Tick = step core Tick
-with_arrive arrive core (TakeUp lines) = step core (TakeUp lines)
-with_arrive arrive core HandOver = step core HandOver
 
 -- what checks 14 and 15 ask for, where every id has so many places
 unfoldable pub room_of : ℕ → State → ℕ → Bool
@@ -63,8 +61,6 @@ with_change change core (Leave id) = step core (Leave id)
 with_change change core (Load id dummies) = step core (Load id dummies)
 with_change change core (Arrive id p) = step core (Arrive id p)
 with_change change core Tick = step core Tick
-with_change change core (TakeUp lines) = step core (TakeUp lines)
-with_change change core HandOver = step core HandOver
 
 -- With the turn, the room and the token of the definitions, these are the tick and the arrive that they alter.
 pub record Unaltered : Type 0 where

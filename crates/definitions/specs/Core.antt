@@ -1,10 +1,9 @@
 -- The core: any call on any core (paper 01, "The calls").
--- "every call but open | 19 | core unopened"; "Taking up counts as an open, so without check 19" (paper 02, S-2).
-use Rattle.definitions.specs.Event.{Event, Open, Join, Change, Leave, Load, Arrive, Tick, TakeUp, HandOver}
+-- "every call but open | 19 | core unopened"
+use Rattle.definitions.specs.Event.{Event, Open, Join, Change, Leave, Load, Arrive, Tick}
 use Rattle.definitions.specs.State.{State, Core, unopened, running}
 use Rattle.definitions.specs.Checks.{Result, refused}
 use Rattle.definitions.specs.Calls.{on_open, on_join, on_change, on_leave, on_load, on_arrive}
-use Rattle.definitions.specs.TakingUp.{on_take_up, on_hand_over}
 use Rattle.definitions.specs.Tick.{on_tick}
 
 abbrev pub when_opened : Core → (State → Result) → Result
@@ -19,5 +18,3 @@ step core (Leave id) = when_opened core (λ s. on_leave s id)
 step core (Load id dummies) = when_opened core (λ s. on_load s id dummies)
 step core (Arrive id packet) = when_opened core (λ s. on_arrive s id packet)
 step core Tick = when_opened core on_tick
-step core (TakeUp lines) = on_take_up core lines
-step core HandOver = on_hand_over core

@@ -1,14 +1,14 @@
 -- What is claimed of the count sheets (paper 02, S-7), of every history. That they are "as private as its queue" is part of demand 3
 -- (specs/Sameness: `chosen_counts`, `indifferent_gains`).
-use Rattle.std.specs.Prelude.{ℕ, ◌+◌, ◌<◌, ◌≡◌, ◌≢◌, false, cond, not, ◌&&◌, T, length}
+use Rattle.std.specs.Prelude.{ℕ, ◌+◌, ◌<◌, ◌≡◌, ◌≢◌, cond, ◌&&◌, T, length}
 use Rattle.definitions.specs.declared.Packet.{Packet}
 use Rattle.definitions.specs.declared.Answer.TheVariants.{Refused}
 use Rattle.definitions.specs.Event.{Event, Arrive}
 use Rattle.definitions.specs.Sizes.{count_span}
 use Rattle.definitions.specs.State.{Core}
 use Rattle.definitions.specs.Core.{step}
-use Rattle.definitions.specs.History.{History, start, ◌then◌, Place, calls, scheduler, after, answer_at, dealing_at, trace_of, stock_of}
-use Rattle.definitions.specs.Traces.{took_up, took_up_ever, indifferent_at}
+use Rattle.definitions.specs.History.{History, start, ◌then◌, Place, calls, scheduler, after, answer_at, trace_of, stock_of}
+use Rattle.definitions.specs.Traces.{indifferent_at}
 use Rattle.definitions.specs.Counts.{Count, count_accepted, count_sent, count14, count15, count_emptied, Tally, zeros, tallied, gained, wrapped, wrapped_plus, counts_after, count_sheet, Whole, whole_after}
 use Rattle.definitions.specs.Sameness.{kept}
 
@@ -30,16 +30,11 @@ waiting_in core id = length (stock_of core id).queue
 unfoldable pub Settles : Tally → Core → ℕ → Type 0
 Settles tally core id = tally count_accepted ≡ wrapped (tally count_sent + tally count_emptied + waiting_in core id)
 
--- of an id that is indifferent at the end: the history up to "the join or change that made it so", or the taking up, which is its last
--- call
+-- of an id that is indifferent at the end: the history up to "the join or change that made it so", which is its last call
 unfoldable pub made_so : ℕ → History → History
 made_so id start = start
 made_so id (h then c) =
-    cond
-    (not (took_up (dealing_at scheduler h c))
-    && (indifferent_at id (trace_of scheduler h) && indifferent_at id (trace_of scheduler (h then c))))
-    (made_so id h)
-    (h then c)
+    cond (indifferent_at id (trace_of scheduler h) && indifferent_at id (trace_of scheduler (h then c))) (made_so id h) (h then c)
 
 -- a packet refused with a number raises one of its client's counts by one and changes nothing else: the core is as it was, and so is
 -- every other count
@@ -63,17 +58,14 @@ pub record DropsCounted : Type 0 where
       → ((step core c).core ≡ core) × (counts_after core c (Refused n) counts ≡ counts)
 
 pub record Counted : Type 0 where
-  -- the counts that are kept are those of the calls since the join, or since a printed state was taken up and with its counts, modulo 2 to
-  -- the power 64
+  -- the counts that are kept are those of the calls since the join, modulo 2 to the power 64
   pub keeps : (h : History) (id : ℕ) (count : Count) → counts_behind h id count ≡ wrapped (tallied id (trace_of scheduler h) count)
-  -- "Accepted equals sent plus emptied plus waiting": of the calls, to the packet, where no printed state was taken up, whose counts may
-  -- have begun again at zero
+  -- "Accepted equals sent plus emptied plus waiting": of the calls, to the packet
   pub settles : (h : History) (id : ℕ)
-      → took_up_ever (trace_of scheduler h) ≡ false
       → tallied id (trace_of scheduler h) count_accepted
       ≡ tallied id (trace_of scheduler h) count_sent + tallied id (trace_of scheduler h) count_emptied
       + waiting_in (after scheduler h) id
-  -- and of the counts that are kept "modulo 2 to the power 64", whatever was taken up
+  -- and of the counts that are kept "modulo 2 to the power 64"
   pub settles_kept : (h : History) (id : ℕ) → Settles (counts_behind h id) (after scheduler h) id
   -- and so from any core and counts of 64 bits on that keep to it, whether calls led there or not
   pub settles_on : (core : Core) (c : Event) (counts : ℕ → Tally) (id : ℕ)

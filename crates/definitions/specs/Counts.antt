@@ -9,15 +9,14 @@ use Rattle.definitions.specs.declared.Answer.TheVariants.{Accepted, Refused, Slo
 use Rattle.definitions.specs.declared.CountSheet.{CountSheet}
 use Rattle.definitions.specs.declared.Sheet.{Sheet}
 use Rattle.definitions.specs.declared.Sheet.TheVariants.{Counts, Unavailable}
-use Rattle.definitions.specs.Event.{Event, Open, Join, Change, Leave, Load, Arrive, Tick, TakeUp, HandOver}
+use Rattle.definitions.specs.Event.{Event, Open, Join, Change, Leave, Load, Arrive, Tick}
 use Rattle.definitions.specs.Sizes.{indifferent_kind, count_span}
 use Rattle.definitions.specs.Client.{is_indifferent}
 use Rattle.definitions.specs.State.{Core, unopened, running}
 use Rattle.definitions.specs.Checks.{first_failed, active_checks}
-use Rattle.definitions.specs.TakingUp.{taken_sheet}
 use Rattle.definitions.specs.Core.{step}
 use Rattle.definitions.specs.History.{Trace, begin, ◌and◌, client_of, stock_of}
-use Rattle.definitions.specs.Traces.{took_up, indifferent_at}
+use Rattle.definitions.specs.Traces.{indifferent_at}
 
 -- the six counts, in the order in which billing names them
 pub data Count : Type 0 where
@@ -39,22 +38,11 @@ Tally = Count → ℕ
 abbrev pub zeros : Tally
 zeros count = 0
 
--- a sheet as what it says of each count
-unfoldable pub tally_of : CountSheet → Tally
-tally_of c count_accepted = c.accepted
-tally_of c count_sent = c.sent
-tally_of c count14 = c.full
-tally_of c count15 = c.drained
-tally_of c count_emptied = c.emptied
-tally_of c count_dummies = c.dummies
-
--- what a call enters in a client's sheet: nothing, so many more of one count, that the sheet begins anew
+-- what a call enters in a client's sheet: nothing, so many more of one count, or that the sheet begins anew
 pub data Entry : Type 0 where
   nothing : Entry
   more : Count → ℕ → Entry
   anew : Entry
-  -- or that it goes on with a sheet that was taken up
-  resume : Tally → Entry
 
 -- "A refusal 14 or 15 now changes its own count and nothing else."
 unfoldable pub entry_of_drop : ℕ → Entry
@@ -79,9 +67,6 @@ module _ (id : ℕ) (indifferent : Bool) (waiting : ℕ) where
   entry_of_accepted (Load other dummies) = nothing
   entry_of_accepted (Arrive other packet) = if_own other (more count_accepted 1)
   entry_of_accepted Tick = nothing
-  -- "Printed states carry them ..; one without them resumes with accepted equal to waiting and the rest 0"
-  entry_of_accepted (TakeUp lines) = resume (tally_of (taken_sheet lines id))
-  entry_of_accepted HandOver = nothing
 
   unfoldable pub entry_of_refused : Event → ℕ → Entry
   entry_of_refused (Open threshold discipline seed) number = nothing
@@ -91,8 +76,6 @@ module _ (id : ℕ) (indifferent : Bool) (waiting : ℕ) where
   entry_of_refused (Load other dummies) number = nothing
   entry_of_refused (Arrive other packet) number = if_own other (entry_of_drop number)
   entry_of_refused Tick number = nothing
-  entry_of_refused (TakeUp lines) number = nothing
-  entry_of_refused HandOver number = nothing
 
   unfoldable pub entry_of_slot : Outcome → Entry
   entry_of_slot (Real other packet padding) = if_own other (more count_sent 1)
@@ -110,37 +93,33 @@ unfoldable pub entered : (ℕ → ℕ → ℕ) → Entry → Tally → Tally
 entered plus nothing tally count = tally count
 entered plus (more one n) tally count = cond (eqb (column count) (column one)) (plus (tally count) n) (tally count)
 entered plus anew tally count = 0
-entered plus (resume taken) tally count = taken count
 
 -- ---- "Each is defined from the calls since the join."
 
--- "counts run to 64 bits and then begin again at zero"
-unfoldable pub wrapped : ℕ → ℕ
-wrapped n = n % count_span
+-- "Accepted equals sent plus emptied plus waiting": what is accepted and neither sent nor emptied out waits
+abbrev pub unsettled : Tally → ℕ
+unsettled tally = tally count_accepted - (tally count_sent + tally count_emptied)
 
--- "Accepted equals sent plus emptied plus waiting, modulo 2 to the power 64": what is accepted and neither sent nor emptied out waits. It
--- is so modulo only, since counts that were taken up may have begun again at zero.
-unfoldable pub unsettled : Tally → ℕ
-unsettled tally = wrapped (tally count_accepted + (count_span - wrapped (tally count_sent + tally count_emptied)))
-
--- the sheet of an id by the calls of a trace and what they got, however large the counts grow; a printed state that is taken up stands for
--- the calls before it
+-- the sheet of an id by the calls of a trace and what they got, however large the counts grow
 unfoldable pub tallied : ℕ → Trace → Tally
 tallied id begin = zeros
 tallied id (t and d) =
     entered ◌+◌ (entry_of id (indifferent_at id t) (unsettled (tallied id t)) d.event d.answer) (tallied id t)
 
 -- "what each count has gained after the join or change that made it so, what that change itself emptied left out", of an id that is
--- indifferent at the trace's end: the calls during which it is indifferent all the time. None of them empties its queue. Where a printed
--- state is taken up, its client's line is the join that made it so.
+-- indifferent at the trace's end: the calls during which it is indifferent all the time. None of them empties its queue.
 unfoldable pub gained : ℕ → Trace → Tally
 gained id begin = zeros
 gained id (t and d) =
-    cond (not (took_up d) && (indifferent_at id t && indifferent_at id (t and d)))
+    cond (indifferent_at id t && indifferent_at id (t and d))
     (entered ◌+◌ (entry_of id (indifferent_at id t) 0 d.event d.answer) (gained id t))
     zeros
 
 -- ---- The counts that are kept.
+
+-- "counts run to 64 bits and then begin again at zero"
+unfoldable pub wrapped : ℕ → ℕ
+wrapped n = n % count_span
 
 unfoldable pub wrapped_plus : ℕ → ℕ → ℕ
 wrapped_plus a b = wrapped (a + b)

@@ -4,7 +4,7 @@
 -- the claim.
 use Rattle.std.specs.Prelude.{ℕ, suc, ◌≤◌, ◌≡◌, List, [], ◌∷◌}
 use Rattle.definitions.specs.declared.Packet.{Packet}
-use Rattle.definitions.specs.Event.{Event, Open, Join, Change, Leave, Load, Arrive, Tick, TakeUp, HandOver}
+use Rattle.definitions.specs.Event.{Event, Open, Join, Change, Leave, Load, Arrive, Tick}
 use Rattle.definitions.specs.Sizes.{number_limit, handle_limit, shares, longest, private_kind, first_come}
 use Rattle.definitions.specs.State.{State, Core, unopened, running}
 use Rattle.definitions.specs.History.{History, start, ◌then◌, stock_of, generator_of, scheduler, after}
@@ -18,9 +18,6 @@ EventFits (Leave id) = id ≤ number_limit
 EventFits (Load id dummies) = (id ≤ number_limit) × (dummies ≤ number_limit)
 EventFits (Arrive id packet) = (id ≤ number_limit) × (packet.handle ≤ handle_limit) × (packet.length ≤ number_limit)
 EventFits Tick = Unit {0}
--- a text may hold any numbers: those that are too large are refused
-EventFits (TakeUp lines) = Unit {0}
-EventFits HandOver = Unit {0}
 
 -- every call of a history is such a call, a refused one too
 abbrev pub HistoryFits : History → Type 0

@@ -1,8 +1,8 @@
 -- What the private side is sure to get (paper 02, S-14): "Over n ticks without open, hand-over, join, change, leave or change
 -- of type by timetable, on one side of the box, private clients together are picked at least n minus the indifferent packets
 -- waiting there at the start minus the sum, over indifferent clients, of (level at the start + n × rate) / 1024 rounded down,
--- provided one private client is active." The field calls it the leftover service of the lower priority. The core has one side
--- and no timetables; a hand-over is a printed state that is taken up, which counts as an open.
+-- provided one private client is active." The field calls it the leftover service of the lower priority. The core has one side,
+-- and neither hand-overs nor timetables.
 use Rattle.std.specs.Prelude.{ℕ, suc, ◌+◌, ◌-◌, ◌≤◌, ◌≡◌, Bool, true, false, cond, not, ◌&&◌, T, length}
 use Rattle.definitions.specs.Sizes.{ids}
 use Rattle.definitions.specs.Draw.{sum_below}

@@ -16,16 +16,12 @@ pub mod Checks
 -- the seven calls
 pub mod Event
 pub mod Calls
-pub mod StateOrder
-pub mod TakingUp
 pub mod Tick
 pub mod Core
 -- what is claimed: of all histories, of a draw, and case by case; and fair rates, with what is claimed of them
 pub mod History
 pub mod Traces
 pub mod Counts
-pub mod StateLines
-pub mod StateEditions
 pub mod Sameness
 pub mod Counted
 pub mod Notes
@@ -33,8 +29,6 @@ pub mod Limits
 pub mod Fits
 pub mod TenantSheet
 pub mod Stretch
-pub mod HandOver
-pub mod HandOverExamples
 pub mod Bound
 pub mod Greedy
 pub mod Guarantee

@@ -2,12 +2,12 @@
 -- histories whose kept calls are equal. What is kept and what is compared is read off two traces, whoever made them;
 -- `Sameness` is the claim of any scheduler. The words of the paper stand beside each.
 use Rattle.std.specs.Prelude.{ℕ, ◌≡◌, Bool, true, false, cond, not, ◌&&◌, ◌||◌, List, [], ◌∷◌, T, eqb}
-use Rattle.definitions.specs.Event.{Event, Open, Join, Change, Leave, Load, Arrive, Tick, TakeUp, HandOver}
+use Rattle.definitions.specs.Event.{Event, Open, Join, Change, Leave, Load, Arrive, Tick}
 use Rattle.definitions.specs.declared.Answer.{Answer}
 use Rattle.definitions.specs.Answers.{number, is_departure}
 use Rattle.definitions.specs.History.{History, start, ◌then◌, Place, calls, Dealing, Trace, begin, ◌and◌, Holdings, Scheduler, after, answer_at, trace_of}
 use Rattle.definitions.specs.Counts.{Count, tallied, gained}
-unfoldable pub use Rattle.definitions.specs.Traces.{is_setting, is_tick, is_arrival, names, indifferent_by_line, indifferent_by_lines, indifferent_by, is_take_up, took_up, indifferent_since, indifferent_at}
+unfoldable pub use Rattle.definitions.specs.Traces.{is_setting, is_tick, is_arrival, names, indifferent_by, indifferent_since, indifferent_at}
 
 -- "Struck out are the arrives and loads naming another id that is not indifferent at their place, an inactive one or one
 -- above 63 too."
@@ -19,11 +19,8 @@ is_struck chosen t (Leave id) = false
 is_struck chosen t (Load id dummies) = not (eqb id chosen) && not (indifferent_at id t)
 is_struck chosen t (Arrive id packet) = not (eqb id chosen) && not (indifferent_at id t)
 is_struck chosen t Tick = false
-is_struck chosen t (TakeUp lines) = false
-is_struck chosen t HandOver = false
 
--- "All other calls are kept": the history of the kept calls. A text that is taken up "is among the arguments that must agree, save where
--- each takes up its own printed state" (paper 02, S-2).
+-- "All other calls are kept": the history of the kept calls.
 unfoldable pub kept : ℕ → Trace → History
 kept chosen begin = start
 kept chosen (t and d) = cond (is_struck chosen t d.event) (kept chosen t) (kept chosen t then d.event)
@@ -96,7 +93,7 @@ module _ (S : Scheduler) where
       → calls (kept chosen (trace_of S h)) ≡ calls (kept chosen (trace_of S k))
       → LooksSame chosen (trace_of S h) (S.holdings (after S h)) (trace_of S k) (S.holdings (after S k))
 
--- the opens, joins, changes and leaves of a history, with what is taken up
+-- the opens, joins, changes and leaves of a history
 unfoldable pub settings_of : History → History
 settings_of start = start
 settings_of (h then c) = cond (is_setting c) (settings_of h then c) (settings_of h)

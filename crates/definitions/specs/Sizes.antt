@@ -9,10 +9,6 @@ number_limit = 4294967295
 unfoldable pub handle_limit : ℕ
 handle_limit = 18446744073709551615
 
--- the largest number of 64 bits
-unfoldable pub word_limit : ℕ
-word_limit = 18446744073709551615
-
 -- "Ids run from 0 to 63."
 unfoldable pub ids : ℕ
 ids = 64

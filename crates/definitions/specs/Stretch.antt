@@ -1,7 +1,7 @@
 -- Stretches: calls one after the other from any core on, with what they got (paper 01, "Numbers": "Over n ticks with no open,
 -- and no join, change or leave of it, an indifferent client .."). What is counted is read off the trace, whoever made it.
 use Rattle.std.specs.Prelude.{ℕ, suc, ◌+◌, ◌*◌, ◌/◌, Bool, true, false, not, ◌&&◌, ◌||◌}
-use Rattle.definitions.specs.Event.{Event, Open, Join, Change, Leave, Load, Arrive, Tick, TakeUp, HandOver}
+use Rattle.definitions.specs.Event.{Event, Open, Join, Change, Leave, Load, Arrive, Tick}
 use Rattle.definitions.specs.Sizes.{shares}
 use Rattle.definitions.specs.Client.{Client}
 use Rattle.definitions.specs.State.{Core}
@@ -35,9 +35,6 @@ is_open (Leave id) = false
 is_open (Load id dummies) = false
 is_open (Arrive id packet) = false
 is_open Tick = false
--- "Taking up counts as an open" (paper 02, S-2)
-is_open (TakeUp lines) = true
-is_open HandOver = true
 
 unfoldable pub ticks : Trace → ℕ
 ticks begin = 0

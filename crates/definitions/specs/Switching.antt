@@ -3,10 +3,8 @@
 -- private to indifferent." So a switch brings nothing: what is accepted of a client while it is indifferent was paid for by the
 -- ticks that it spent so. A spell is the time from the call that makes it indifferent to the call that ends this.
 -- Type and rate are read off the trace, whoever made it, from what the client is at the start.
-use Rattle.std.specs.Prelude.{ℕ, ◌+◌, ◌/◌, ◌≤◌, max, ◌≡◌, Bool, false, cond, not, ◌&&◌, List, [], ◌∷◌, T, eqb}
-use Rattle.definitions.specs.Event.{Event, Open, Join, Change, Leave, Load, Arrive, Tick, TakeUp, HandOver}
-use Rattle.definitions.specs.declared.StateLine.{StateLine}
-use Rattle.definitions.specs.declared.StateLine.TheVariants.{Head, Private, Indifferent, Counted, Wait, End, Unread}
+use Rattle.std.specs.Prelude.{ℕ, ◌+◌, ◌/◌, ◌≤◌, max, ◌≡◌, Bool, false, cond, ◌&&◌, T, eqb}
+use Rattle.definitions.specs.Event.{Event, Open, Join, Change, Leave, Load, Arrive, Tick}
 use Rattle.definitions.specs.Sizes.{shares}
 use Rattle.definitions.specs.Client.{Client, is_indifferent}
 use Rattle.definitions.specs.State.{Core}
@@ -15,53 +13,9 @@ use Rattle.definitions.specs.Checks.{Result}
 use Rattle.definitions.specs.Tick.{turn}
 use Rattle.definitions.specs.Core.{step}
 use Rattle.definitions.specs.History.{History, Dealing, Trace, begin, ◌and◌, after, trace_of, client_of, scheduler_on, scheduler}
-use Rattle.definitions.specs.Sameness.{is_tick, took_up, indifferent_since}
+use Rattle.definitions.specs.Sameness.{is_tick, indifferent_since}
 use Rattle.definitions.specs.Stretch.{stretch, behind, one_if, ticks, is_offer, undisturbed, acceptances, tokens}
 use Rattle.definitions.specs.Greedy.{Greedy}
-
--- what client lines that are taken up give an id: each "stands for an accepted join", and the state's line for the open (paper 02, S-2)
-unfoldable pub rate_by_line : ℕ → StateLine → ℕ → ℕ
-rate_by_line id (Head threshold discipline generator) was = 0
-rate_by_line id (Private other rate pool) was = cond (eqb other id) rate was
-rate_by_line id (Indifferent other rate burst level) was = cond (eqb other id) rate was
-rate_by_line id (Counted other counts) was = was
-rate_by_line id (Wait other handle length) was = was
-rate_by_line id (End lines) was = was
-rate_by_line id Unread was = was
-
-unfoldable pub rate_by_lines : ℕ → List StateLine → ℕ → ℕ
-rate_by_lines id [] was = was
-rate_by_lines id (line ∷ lines) was = rate_by_lines id lines (rate_by_line id line was)
-
--- the level that they give it, which no tick has brought: "Printed states already out resume with the level they hold" (paper 02, S-4)
-unfoldable pub level_by_line : ℕ → StateLine → ℕ → ℕ
-level_by_line id (Head threshold discipline generator) was = 0
-level_by_line id (Private other rate pool) was = cond (eqb other id) 0 was
-level_by_line id (Indifferent other rate burst level) was = cond (eqb other id) level was
-level_by_line id (Counted other counts) was = was
-level_by_line id (Wait other handle length) was = was
-level_by_line id (End lines) was = was
-level_by_line id Unread was = was
-
-unfoldable pub level_by_lines : ℕ → List StateLine → ℕ → ℕ
-level_by_lines id [] was = was
-level_by_lines id (line ∷ lines) was = level_by_lines id lines (level_by_line id line was)
-
-unfoldable pub level_taken : ℕ → Event → ℕ
-level_taken id (Open threshold discipline seed) = 0
-level_taken id (Join other kind rate burst) = 0
-level_taken id (Change other kind rate burst) = 0
-level_taken id (Leave other) = 0
-level_taken id (Load other dummies) = 0
-level_taken id (Arrive other packet) = 0
-level_taken id Tick = 0
-level_taken id (TakeUp lines) = level_by_lines id lines 0
-level_taken id HandOver = 0
-
--- the levels that an id was given by printed states that were taken up, together
-unfoldable pub levels_taken : ℕ → Trace → ℕ
-levels_taken id begin = 0
-levels_taken id (t and d) = levels_taken id t + cond (took_up d) (level_taken id d.event) 0
 
 -- the rate of an id after an accepted call, given what it was before
 unfoldable pub rate_by : ℕ → Event → ℕ → ℕ
@@ -72,8 +26,6 @@ rate_by id (Leave other) was = cond (eqb other id) 0 was
 rate_by id (Load other dummies) was = was
 rate_by id (Arrive other packet) was = was
 rate_by id Tick was = was
-rate_by id (TakeUp lines) was = rate_by_lines id lines 0
-rate_by id HandOver was = was
 
 -- what a client has in its bucket, which it has while it is indifferent
 unfoldable pub bucket_of : Client → ℕ
@@ -111,16 +63,15 @@ module _ (id : ℕ) (client : Client) where
   unfoldable pub income : Trace → Dealing → ℕ
   income t d = cond (is_refill t d) (rate_in t) 0
 
-  -- what the present spell has brought it, with what was in its bucket if the spell was under way at the start, or was taken up
+  -- what the present spell has brought it, with what was in its bucket if the spell was under way at the start
   unfoldable pub credit : Trace → ℕ
   credit begin = bucket_of client
-  credit (t and d) =
-      cond (took_up d) (level_taken id d.event) (cond (indifferent_in (t and d)) (credit t + income t d) 0)
+  credit (t and d) = cond (indifferent_in (t and d)) (credit t + income t d) 0
 
   -- the packets that the spells before it could pay for: what is left of a spell is lost with it
   unfoldable pub closed : Trace → ℕ
   closed begin = 0
-  closed (t and d) = closed t + cond (not (took_up d) && indifferent_in (t and d)) 0 ((credit t + income t d) / shares)
+  closed (t and d) = closed t + cond (indifferent_in (t and d)) 0 ((credit t + income t d) / shares)
 
   -- and all its spells, each rounded down by itself
   abbrev pub affordable : Trace → ℕ
@@ -140,14 +91,12 @@ module _ (act : Core → Event → Result) where
       → admissions id (client_of core id) (dealt_by core calls)
       ≤ affordable id (client_of core id) (dealt_by core calls)
 
-  -- so no more than the ticks that it spent indifferent bring at its largest rate, beside what was in its bucket at the start and what was
-  -- taken up
+  -- so no more than the ticks that it spent indifferent bring at its largest rate, beside what was in its bucket at the start
   unfoldable pub ByTicks : Type 0
   ByTicks =
       (core : Core) (id : ℕ) (calls : History)
       → admissions id (client_of core id) (dealt_by core calls)
-      ≤ tokens (bucket_of (client_of core id) + levels_taken id (dealt_by core calls))
-      (top_rate id (client_of core id) (dealt_by core calls))
+      ≤ tokens (bucket_of (client_of core id)) (top_rate id (client_of core id) (dealt_by core calls))
       (refills id (client_of core id) (dealt_by core calls))
 
 -- What is counted of a client that is indifferent all along, on the terms of the start: the ticks, its acceptances, and a rate that
@@ -169,18 +118,16 @@ pub record Switching : Type 0 where
       → Unswitched id (client_of core id) (stretch core calls)
   pub by_spells : BySpells step
   pub by_ticks : ByTicks step
-  -- a client that is private or not active at the start has nothing in a bucket: n × rate / 1024, rounded down, beside what is taken up
+  -- a client that is private or not active at the start has nothing in a bucket: n × rate / 1024, rounded down
   pub from_nothing : (core : Core) (id : ℕ) (calls : History)
       → is_indifferent (client_of core id).kind ≡ false
       → admissions id (client_of core id) (stretch core calls)
-      ≤ tokens (levels_taken id (stretch core calls)) (top_rate id (client_of core id) (stretch core calls))
-      (refills id (client_of core id) (stretch core calls))
+      ≤ tokens 0 (top_rate id (client_of core id) (stretch core calls)) (refills id (client_of core id) (stretch core calls))
   -- An indifferent client of burst 2 or more gains nothing by switching: where it stays as it is, and offers all it can (S-10), it
   -- has at least as many packets accepted as where it switches from the same core on, at rates up to its own, and is indifferent
-  -- for no more ticks, and no printed state gives it a level.
+  -- for no more ticks.
   pub nothing_gained : (h : History) (id : ℕ) (switching staying : History)
       → Greedy id (client_of (after scheduler h) id) (stretch (after scheduler h) staying)
-      → levels_taken id (stretch (after scheduler h) switching) ≡ 0
       → top_rate id (client_of (after scheduler h) id) (stretch (after scheduler h) switching)
       ≤ (client_of (after scheduler h) id).rate
       → refills id (client_of (after scheduler h) id) (stretch (after scheduler h) switching)

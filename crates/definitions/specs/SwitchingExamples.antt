@@ -1,8 +1,8 @@
 -- That a client that switches (paper 02, S-4) may get all that its spells pay for, why the bound speaks of what was in the bucket
 -- at the start and of the largest rate, and that there was no such bound under the rule before the request. Client 3 is the one
 -- that switches.
-use Rattle.std.specs.Prelude.{ℕ, ◌+◌, ◌*◌, ◌<◌, ◌≡◌, cond}
-use Rattle.definitions.specs.Event.{Event, Open, Join, Change, Leave, Load, Arrive, Tick, TakeUp, HandOver}
+use Rattle.std.specs.Prelude.{ℕ, ◌*◌, ◌<◌, ◌≡◌, cond}
+use Rattle.definitions.specs.Event.{Event, Open, Join, Change, Leave, Load, Arrive, Tick}
 use Rattle.definitions.specs.Sizes.{shares, indifferent_kind, private_kind}
 use Rattle.definitions.specs.Client.{Client, kind_of, same_kind, with_level, joining, retuned}
 use Rattle.definitions.specs.Stock.{bare}
@@ -12,7 +12,7 @@ use Rattle.definitions.specs.Calls.{side_after_change}
 use Rattle.definitions.specs.Core.{when_opened, step}
 use Rattle.definitions.specs.History.{History, start, ◌then◌, client_of}
 use Rattle.definitions.specs.Stretch.{stretch, tokens}
-use Rattle.definitions.specs.Switching.{levels_taken, bucket_of, rate_in, refills, top_rate, admissions, affordable, dealt_by, BySpells, ByTicks}
+use Rattle.definitions.specs.Switching.{bucket_of, rate_in, refills, top_rate, admissions, affordable, dealt_by, BySpells, ByTicks}
 use Rattle.definitions.specs.GreedyExamples.{offer, ticking, joined, thrice}
 use Rattle.definitions.specs.GuaranteeExamples.{private_only}
 
@@ -45,8 +45,7 @@ slowed = ticking 1 (to_indifferent 1 4 (thrice (ticking 4 (start then Join 3 ind
 pub record Gets (act : Core → Event → Result) (core : Core) (calls : History) (got paid brought : ℕ) : Type 0 where
   pub accepted : admissions 3 (client_of core 3) (dealt_by act core calls) ≡ got
   pub by_spells : affordable 3 (client_of core 3) (dealt_by act core calls) ≡ paid
-  pub by_ticks : tokens (bucket_of (client_of core 3) + levels_taken 3 (dealt_by act core calls))
-      (top_rate 3 (client_of core 3) (dealt_by act core calls))
+  pub by_ticks : tokens (bucket_of (client_of core 3)) (top_rate 3 (client_of core 3) (dealt_by act core calls))
       (refills 3 (client_of core 3) (dealt_by act core calls))
       ≡ brought
 
@@ -96,8 +95,6 @@ step_filled core (Leave id) = step core (Leave id)
 step_filled core (Load id dummies) = step core (Load id dummies)
 step_filled core (Arrive id p) = step core (Arrive id p)
 step_filled core Tick = step core Tick
-step_filled core (TakeUp lines) = step core (TakeUp lines)
-step_filled core HandOver = step core HandOver
 
 -- "each switch hands them a full burst"
 pub record FullBuckets : Type 0 where

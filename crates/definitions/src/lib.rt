@@ -100,40 +100,6 @@ pub struct CountSheet {
     pub dummies: u64,
 }
 
-// A line of a printed state, with its numbers, or a line of another shape.
-#[derive(Drop)]
-pub enum StateLine {
-    Head {
-        threshold: u64,
-        discipline: u64,
-        generator: u64,
-    },
-    Private {
-        id: u64,
-        rate: u64,
-        pool: u64,
-    },
-    Indifferent {
-        id: u64,
-        rate: u64,
-        burst: u64,
-        level: u64,
-    },
-    Counted {
-        id: u64,
-        counts: CountSheet,
-    },
-    Wait {
-        id: u64,
-        handle: u64,
-        length: u64,
-    },
-    End {
-        lines: u64,
-    },
-    Unread,
-}
-
 // What billing gets for an id: its counts, or the number of the first check that failed.
 #[derive(Drop)]
 pub enum Sheet {

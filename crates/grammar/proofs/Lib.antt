@@ -12,5 +12,4 @@ pub mod ReadSentences
 pub mod Sheets
 pub mod TenantPapers
 pub mod CountsPrivate
-pub mod StateTexts
 pub mod Examples

@@ -16,6 +16,4 @@ pub mod FairSheet
 pub mod Sheet
 pub mod TenantPaper
 pub mod CountLines
-pub mod StateText
-pub mod StateOnPaper
 pub mod Examples

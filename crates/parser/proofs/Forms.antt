@@ -125,7 +125,7 @@ like letter [] = []
 like letter (r ∷ rs) = cond (unlike letter r.template) (like letter rs) (r ∷ like letter rs)
 
 module _ (line : List ℕ) {letter : ℕ} (second : letter ≡ byte_of (drop 1 line)) where
-  pub unlike_misfits : (template : List ℕ) → unlike letter template ≡ true → matched template line ≡ none
+  unlike_misfits : (template : List ℕ) → unlike letter template ≡ true → matched template line ≡ none
   unfolding unlike
   unlike_misfits [] e = absurd (true≢false (sym e))
   unlike_misfits (b ∷ []) e = absurd (true≢false (sym e))

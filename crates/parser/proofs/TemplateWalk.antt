@@ -40,12 +40,12 @@ unfoldable pub before : List ℕ → Option (List ℕ) → Option (List ℕ)
 before ns none = none
 before ns (some ms) = some (ns ++ ms)
 
-pub before_number : (ns : List ℕ) (n : ℕ) (found : Option (List ℕ)) → before ns (with_number n found) ≡ before (ns ++ (n ∷ [])) found
+before_number : (ns : List ℕ) (n : ℕ) (found : Option (List ℕ)) → before ns (with_number n found) ≡ before (ns ++ (n ∷ [])) found
 unfolding before
 before_number ns n none = refl
 before_number ns n (some ms) = ap some (sym (append_assoc ns (n ∷ []) ms))
 
-pub before_none : (found : Option (List ℕ)) → found ≡ before [] found
+before_none : (found : Option (List ℕ)) → found ≡ before [] found
 unfolding before
 before_none none = refl
 before_none (some ms) = refl
@@ -53,12 +53,12 @@ before_none (some ms) = refl
 -- ---- a fixed byte against the first byte of the rest of a line, which 256 stands for where there is none
 
 module _ (b : ℕ) (bs : List ℕ) (fixed : is_gap b ≡ false) where
-  pub first_fits : (l : List ℕ) → b < 256 → byte_of l ≡ b → matched (b ∷ bs) l ≡ matched bs (drop 1 l)
+  first_fits : (l : List ℕ) → b < 256 → byte_of l ≡ b → matched (b ∷ bs) l ≡ matched bs (drop 1 l)
   unfolding byte_of
   first_fits [] small e = absurd (omega arith)
   first_fits (x ∷ xs) small e = byte_fits b bs x xs fixed (eq-eqb b x (sym e))
 
-  pub first_misfits : (l : List ℕ) → (byte_of l ≡ b → ⊥) → matched (b ∷ bs) l ≡ none
+  first_misfits : (l : List ℕ) → (byte_of l ≡ b → ⊥) → matched (b ∷ bs) l ≡ none
   unfolding matched byte_of
   first_misfits [] e = refl
   first_misfits (x ∷ xs) e = byte_misfits b bs x xs fixed (ne_eqb b x (λ q. e (sym q)))
@@ -74,7 +74,7 @@ second_misfits b c cs (x ∷ xs) first second h = go (eqb b x) refl
     go true e = byte_fits b (c ∷ cs) x xs first e ∙ first_misfits c cs second xs h
     go false e = byte_misfits b (c ∷ cs) x xs first e
 
-pub byte_there : (line : List ℕ) (at : ℕ) → byte_of (drop at line) < 256 → at < length line
+byte_there : (line : List ℕ) (at : ℕ) → byte_of (drop at line) < 256 → at < length line
 unfolding byte_of
 byte_there [] at h = absurd (omega (arith, rw drop-nil at h))
 byte_there (x ∷ xs) zero h = omega arith

@@ -59,7 +59,7 @@ plain_rest : (b : ℕ) (bs : List ℕ) → plain (b ∷ bs) ≡ true → plain b
 unfolding plain
 plain_rest b bs e = (and_both (not (is_gap b)) (plain bs) e).1
 
-pub matched-behind : (p t l : List ℕ) → plain p ≡ true → starts p l ≡ true → matched (p ++ t) l ≡ matched t (drop (length p) l)
+matched-behind : (p t l : List ℕ) → plain p ≡ true → starts p l ≡ true → matched (p ++ t) l ≡ matched t (drop (length p) l)
 unfolding starts
 matched-behind [] t l bare e = refl
 matched-behind (b ∷ bs) t [] bare e = absurd (true≢false (sym e))
@@ -79,7 +79,7 @@ not-begun (b ∷ bs) t (x ∷ xs) bare e = go (eqb b x) refl e (not-begun bs t x
     go false q f rest = byte_misfits b (bs ++ t) x xs (plain_first b bs bare) q
 
 -- a text has no gaps of its own
-pub limits-behind : (p t : List ℕ) → plain p ≡ true → limits (p ++ t) ≡ limits t
+limits-behind : (p t : List ℕ) → plain p ≡ true → limits (p ++ t) ≡ limits t
 limits-behind [] t bare = refl
 limits-behind (b ∷ bs) t bare =
     limits_byte handle_limit b (bs ++ t) (plain_first b bs bare) ∙ limits-behind bs t (plain_rest b bs bare)

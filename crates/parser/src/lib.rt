@@ -63,11 +63,11 @@ struct Amount {
 // A number in a line: whether it is spelled right, whether it is above its limit, its value where it is not, and the place
 // behind it.
 #[derive(Drop)]
-pub struct Numeral {
-    pub is: bool,
-    pub large: bool,
-    pub value: u64,
-    pub next: usize,
+struct Numeral {
+    is: bool,
+    large: bool,
+    value: u64,
+    next: usize,
 }
 
 // A word that is one number, or any other.
@@ -79,9 +79,9 @@ pub enum Word {
 
 // A byte of a template: whether it is a gap, and the largest number that may stand there.
 #[derive(Drop)]
-pub struct Gap {
-    pub is: bool,
-    pub limit: u64,
+struct Gap {
+    is: bool,
+    limit: u64,
 }
 
 // What a form with one number or two finds in a line: the number that refuses it, or 0 and the form's numbers.
@@ -102,13 +102,13 @@ struct Terms {
     burst: u32,
 }
 
-pub fn wide(byte: u8) -> u64
+fn wide(byte: u8) -> u64
     ensures { result ≡ byte }
 {
     byte as u64
 }
 
-pub fn byte_at(line: &[u8], at: usize) -> u64
+fn byte_at(line: &[u8], at: usize) -> u64
     ensures { result ≡ byte_of (drop at line.now) }
 {
     if line.len() <= at {
@@ -184,7 +184,7 @@ fn is_spelled(count: usize, first: u64) -> bool
 }
 
 // The number that starts at a place, however many digits it has.
-pub fn read_numeral(line: &[u8], from: usize, limit: u64) -> Numeral
+fn read_numeral(line: &[u8], from: usize, limit: u64) -> Numeral
     ensures { Spells limit (drop from line.now) line.now result }
 {
     let first = digit_at(line, from);
@@ -229,7 +229,7 @@ pub fn number(word: &[u8]) -> Word
 }
 
 // Which bytes of a template are gaps, and the largest number that may stand in each.
-pub fn gap_of(byte: u64) -> Gap
+fn gap_of(byte: u64) -> Gap
     ensures { result ≡ gap_of byte }
 {
     if byte == NUMBER {
@@ -250,7 +250,7 @@ pub fn gap_of(byte: u64) -> Gap
     }
 }
 
-pub fn either(a: bool, b: bool) -> bool
+fn either(a: bool, b: bool) -> bool
     ensures { result ≡ a || b }
 {
     if a { true } else { b }
@@ -293,7 +293,7 @@ fn read_as(line: &[u8], from: usize, template: &[u8], numbers: &mut [u64; NUMBER
 }
 
 // Whether a line begins with a text: what a template asks up to its first gap, at less cost.
-pub fn starts(line: &[u8], text: &[u8]) -> bool
+fn starts(line: &[u8], text: &[u8]) -> bool
     ensures { result ≡ starts text.now line.now }
 {
     if line.len() < text.len() {

@@ -1,1 +1,2 @@
+pub mod PiecesCounted
 pub mod OptionBytes

@@ -1,2 +1,3 @@
--- What the arguments ask for.
+-- What the arguments ask for, and the buffer that the answer goes through.
+pub mod PieceRoom
 pub mod Requests

@@ -1,9 +1,12 @@
 // Reads a script from standard input and writes its printout, the operator's sheet or a tenant's, or the forecast or the count sheets
 // behind it. What is written is decided in `script`, in `forecast` and in `bill`.
-ghost use Rattle.std.specs.Prelude.{◌≡◌};
+ghost use Rattle.std.specs.Prelude.{◌≡◌, length};
+ghost use Rattle.grammar.specs.Printout.{printout_for};
 ghost use Rattle.grammar.specs.Forecast.{forecast_behind};
 ghost use Rattle.grammar.specs.CountLines.{counts_printed};
+ghost use Rattle.script.specs.Pieces.{Start};
 ghost use Rattle.streams.specs.Writing.{HandedOn};
+ghost use Rattle.slots.specs.PieceRoom.{piece_room};
 ghost use Rattle.parser.specs.Words.{word_of};
 ghost use Rattle.slots.specs.Requests.{usage, alone, numbered, asked, requested};
 
@@ -13,6 +16,7 @@ use grammar::Audience;
 use libc::{STDERR_FILENO, STDOUT_FILENO};
 use order::LINKS;
 use parser::Word;
+use script::Progress;
 use streams::{Reading, Writing};
 use tables::{STOCKS, STORE, TERMS};
 
@@ -31,6 +35,68 @@ enum Request {
     Bill,
     Help,
     Unknown,
+}
+
+// Writes what the start of a script left in the buffer, and piece by piece what is behind it, to the end of the text or a write
+// that fails.
+fn write_pieces(
+    audience: Audience,
+    text: &[u8],
+    out: &mut [u8],
+    first: Progress,
+    terms: &mut [u32; TERMS],
+    stocks: &mut [u32; STOCKS],
+    handles: &mut [u64; STORE],
+    lengths: &mut [u16; STORE],
+    links: &mut [u32; LINKS],
+    counts: &mut [u64; COUNTS],
+) -> Writing
+    requires { Start text.now out.old first × (piece_room ≡ length out.old) }
+    ensures { HandedOn result (printout_for audience text.now) }
+{
+    let mut control = first.control;
+    let mut at = first.next;
+    let mut written = first.written;
+    let mut total = written;
+    while io::write_all(STDOUT_FILENO, &out[..written]) {
+        if at >= text.len() {
+            return Writing::Bytes(total);
+        }
+        let piece = script::piece(
+            audience, text, at, out, control, terms, stocks, handles, lengths, links, counts,
+        );
+        control = piece.control;
+        at = piece.next;
+        written = piece.written;
+        total += written;
+    }
+    Writing::Failed
+}
+
+// Writes the printout of a text for an audience, on tables of its own.
+fn write_printout(audience: Audience, text: &[u8]) -> Writing
+    ensures { HandedOn result (printout_for audience text.now) }
+{
+    let mut terms: [u32; TERMS] = [0; TERMS];
+    let mut stocks: [u32; STOCKS] = [0; STOCKS];
+    let mut handles: [u64; STORE] = [0; STORE];
+    let mut lengths: [u16; STORE] = [0; STORE];
+    let mut links: [u32; LINKS] = [0; LINKS];
+    let mut counts: [u64; COUNTS] = [0; COUNTS];
+    let mut out = io::buffer();
+    let first = script::start(text, &mut out);
+    write_pieces(
+        audience,
+        text,
+        &mut out,
+        first,
+        &mut terms,
+        &mut stocks,
+        &mut handles,
+        &mut lengths,
+        &mut links,
+        &mut counts,
+    )
 }
 
 // Writes the forecast behind a text, on tables of its own.
@@ -97,7 +163,7 @@ fn write_requested(text: &[u8], request: Request) -> Writing
     ensures { HandedOn result (requested request text.now) }
 {
     match request {
-        Request::Printout { audience } => pieces::write_printout(audience, text),
+        Request::Printout { audience } => write_printout(audience, text),
         Request::Forecast { ticks } => write_forecast(text, ticks),
         Request::Bill => write_bill(text),
         Request::Help => write_usage(STDOUT_FILENO),

@@ -9,7 +9,7 @@ use Rattle.definitions.specs.Stretch.{stretch, ticks, undisturbed, acceptances, 
 use Rattle.definitions.specs.Bound.{Bound}
 use Rattle.definitions.specs.Greedy.{Greedy}
 use Rattle.definitions.specs.Guarantee.{steady, picks, demand, sure}
-use Rattle.definitions.specs.Switching.{levels_taken, bucket_of, refills, top_rate, admissions, affordable, BySpells, ByTicks}
+use Rattle.definitions.specs.Switching.{bucket_of, refills, top_rate, admissions, affordable, BySpells, ByTicks}
 use Rattle.definitions.proofs.Bound.{bound}
 use Rattle.definitions.proofs.Limits.Client.{indifferent_limits}
 use Rattle.definitions.proofs.Stretches.Greedy.{greedy_exact}
@@ -58,7 +58,7 @@ code_stretch = record {
   switching = λ run id calls.
       of_calls
       (λ t. admissions id (client_of (core_after run) id) t
-      ≤ tokens (bucket_of (client_of (core_after run) id) + levels_taken id t) (top_rate id (client_of (core_after run) id) t)
+      ≤ tokens (bucket_of (client_of (core_after run) id)) (top_rate id (client_of (core_after run) id) t)
       (refills id (client_of (core_after run) id) t))
       calls
       (switched.by_ticks (core_after run) id);

@@ -7,7 +7,7 @@ use Rattle.definitions.specs.Client.{is_indifferent}
 use Rattle.definitions.specs.History.{Trace, client_of}
 use Rattle.definitions.specs.Stretch.{ticks, undisturbed, acceptances, tokens, bought}
 use Rattle.definitions.specs.Greedy.{Greedy}
-use Rattle.definitions.specs.Switching.{levels_taken, bucket_of, refills, top_rate, admissions, affordable}
+use Rattle.definitions.specs.Switching.{bucket_of, refills, top_rate, admissions, affordable}
 use Rattle.definitions.specs.Guarantee.{steady, picks, private_active, demand, sure}
 use Rattle.tables.specs.declared.Control.{Control}
 use Rattle.tables.specs.Tables.{Tables}
@@ -31,12 +31,11 @@ pub record CodeStretch : Type 0 where
   pub spells : (run : Run) (id : ℕ) {t : Trace} {c : Control} {u : Tables}
       → CallsFrom Meets run.control run.tables t c u
       → admissions id (client_of (core_after run) id) t ≤ affordable id (client_of (core_after run) id) t
-  -- and than the ticks that it spent so bring at its largest rate, beside what was in its bucket at the start and what
-  -- was taken up
+  -- and than the ticks that it spent so bring at its largest rate, beside what was in its bucket at the start
   pub switching : (run : Run) (id : ℕ) {t : Trace} {c : Control} {u : Tables}
       → CallsFrom Meets run.control run.tables t c u
       → admissions id (client_of (core_after run) id) t
-      ≤ tokens (bucket_of (client_of (core_after run) id) + levels_taken id t) (top_rate id (client_of (core_after run) id) t)
+      ≤ tokens (bucket_of (client_of (core_after run) id)) (top_rate id (client_of (core_after run) id) t)
       (refills id (client_of (core_after run) id) t)
   -- "private clients together are picked at least n minus .., provided one private client is active"
   pub guarantee : (run : Run) {t : Trace} {c : Control} {u : Tables}

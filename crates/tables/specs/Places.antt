@@ -3,7 +3,7 @@
 use Rattle.std.specs.Prelude.{◌≡◌, Bool, false, ◌||◌, ℕ}
 use Rattle.definitions.specs.declared.Answer.{Answer}
 use Rattle.definitions.specs.Answers.{is_accepted}
-use Rattle.definitions.specs.Event.{Event, Open, Join, Change, Leave, Load, Arrive, Tick, TakeUp, HandOver}
+use Rattle.definitions.specs.Event.{Event, Open, Join, Change, Leave, Load, Arrive, Tick}
 use Rattle.definitions.specs.History.{Trace, begin, ◌and◌}
 use Rattle.tables.specs.declared.Control.{Control}
 use Rattle.tables.specs.declared.Answered.{Answered}
@@ -17,8 +17,7 @@ pub record PlacesStand (t u : Tables) : Type 0 where
   pub handles : u.handles ≡ t.handles
   pub lengths : u.lengths ≡ t.lengths
 
--- an arrival puts its packet at a place, opening fills all of them, and taking up puts the packets that wait at theirs; and each only
--- where it is accepted
+-- an arrival puts its packet at a place, and opening fills all of them; and both only where they are accepted
 abbrev pub may_write : Event → Answer → Bool
 may_write (Open threshold discipline seed) answer = is_accepted answer
 may_write (Join id kind rate burst) answer = false
@@ -27,8 +26,6 @@ may_write (Leave id) answer = false
 may_write (Load id dummies) answer = false
 may_write (Arrive id packet) answer = is_accepted answer
 may_write Tick answer = false
-may_write (TakeUp lines) answer = is_accepted answer
-may_write HandOver answer = is_accepted answer
 
 -- the contract of every call: it is met, the places stand unless it may write them, and the counts are what it makes of them
 pub record Promised (call : Event) (c : Control) (t : Tables) (r : Answered) (u : Tables) : Type 0 where
@@ -42,7 +39,7 @@ may_have_written begin = false
 may_have_written (trace and d) = may_have_written trace || may_write d.event d.answer
 
 -- Whatever the answer: the calls that empty leave all handles and lengths as they were. And so do any calls, one after the other,
--- among which no open, no taking up and no arrival is accepted.
+-- among which no open and no arrival is accepted.
 pub record Standing : Type 0 where
   pub join : {id kind rate burst : ℕ} {c : Control} {t u : Tables} {r : Answered} → Promised (Join id kind rate burst) c t r u
       → PlacesStand t u

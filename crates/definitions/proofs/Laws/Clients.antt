@@ -2,13 +2,12 @@
 -- By splitting the test of the id or the rule. Assumes nothing.
 use Prim.Native.Nat.{ℕ}
 use mathlib.Core.Path.{◌≡◌, refl, sym, fun_ext, subst}
-use mathlib.Core.Bool.{Bool, true, false, cond}
-use lib.Dec.{eqb}
+use mathlib.Core.Bool.{cond}
 use borrow.Author.Tests.{eq-eqb, ne_eqb}
 use Rattle.definitions.specs.Stock.{Stock, spent}
 use Rattle.definitions.specs.State.{put}
 use Rattle.definitions.specs.Tick.{Rule, rule1, rule2, rule3, stocks_after}
-use Rattle.definitions.proofs.Laws.Tests.{eqb-cases, eqb_comm}
+use Rattle.definitions.proofs.Laws.Tests.{eqb-cases}
 
 module _ {A : Type 0} (all : ℕ → A) (id : ℕ) (one : A) where
   pub put_same : put all id one id ≡ one
@@ -32,15 +31,6 @@ module _ {A : Type 0} (all : ℕ → A) (id : ℕ) (one : A) where
   -- what it has in common with that in whose place it is put stays as it was at every id
   pub put_keeps {ℓ} : {B : Type ℓ} (f : A → B) → f one ≡ f (all id) → (other : ℕ) → f (put all id one other) ≡ f (all other)
   put_keeps f same = put-cases (λ j d. f d ≡ f (all j)) same (λ j ne. refl)
-
-  -- what is read of an id after the put
-  pub put_read : {B : Type 0} (read : A → B) (j : ℕ) → read (put all id one j) ≡ cond (eqb id j) (read one) (read (all j))
-  unfolding put
-  put_read read j = rw (eqb_comm id j) (go (eqb j id))
-    where
-      go : (b : Bool) → read (cond b one (all j)) ≡ cond b (read one) (read (all j))
-      go true = refl
-      go false = refl
 
 -- what is put where it already stands changes nothing
 pub put_own : {A : Type 0} (all : ℕ → A) (id : ℕ) → put all id (all id) ≡ all

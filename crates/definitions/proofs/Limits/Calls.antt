@@ -27,7 +27,7 @@ use Rattle.definitions.proofs.Limits.Stock.{bare-limits, loaded-limits, queued-l
 
 -- What belongs into the order.
 
-pub ordered_inactive : (c : Client) (k : Stock) → is_active c.kind ≡ false → ordered c k ≡ 0
+ordered_inactive : (c : Client) (k : Stock) → is_active c.kind ≡ false → ordered c k ≡ 0
 unfolding ordered
 ordered_inactive c k e = go c.kind e
   where
@@ -36,26 +36,26 @@ ordered_inactive c k e = go c.kind e
     go indifferent f = absurd (true≢false f)
     go private f = refl
 
-pub ordered-bare : (c : Client) → ordered c bare ≡ 0
+ordered-bare : (c : Client) → ordered c bare ≡ 0
 unfolding ordered
 ordered-bare c = cond_same (is_indifferent c.kind) 0
 
 -- what is asked of a client and of what it has to send, where they are put in place
-pub record Update (s : State) (id : ℕ) (c : Client) (k : Stock) (order : List ℕ) : Type 0 where
-  pub below : id < ids
-  pub parts : Parts c
+record Update (s : State) (id : ℕ) (c : Client) (k : Stock) (order : List ℕ) : Type 0 where
+  below : id < ids
+  parts : Parts c
   -- the others' rates and the client's together do not pass the threshold
-  pub threshold : rates s.clients + held c ≤ s.threshold + held (s.clients id)
-  pub stock : StockLimits c.kind k
-  pub own : standing id order ≡ ordered c k
-  pub others : (j : ℕ) → (j ≡ id → ⊥) → standing j order ≡ standing j s.side.order
+  threshold : rates s.clients + held c ≤ s.threshold + held (s.clients id)
+  stock : StockLimits c.kind k
+  own : standing id order ≡ ordered c k
+  others : (j : ℕ) → (j ≡ id → ⊥) → standing j order ≡ standing j s.side.order
 
 -- the side with one stock and the order anew
-abbrev pub with_stock : State → ℕ → Stock → List ℕ → Side
+abbrev with_stock : State → ℕ → Stock → List ℕ → Side
 with_stock s id k order = record { generator = s.side.generator; order = order; stocks = put s.side.stocks id k }
 
 module _ (s : State) (known : StateLimits s) where
-  pub updated-limits : (id : ℕ) (c : Client) (k : Stock) (order : List ℕ)
+  updated-limits : (id : ℕ) (c : Client) (k : Stock) (order : List ℕ)
       → Update s id c k order
       → StateLimits (updated s (put s.clients id c) (with_stock s id k order))
   unfolding updated put
@@ -272,7 +272,7 @@ module _ (s : State) (known : StateLimits s) where
 
 -- An open asks nothing of the core before but its limits, which a refusal keeps.
 
-pub fresh-limits : (threshold discipline seed : ℕ)
+fresh-limits : (threshold discipline seed : ℕ)
     → Passed (open_checks threshold discipline seed)
     → StateLimits (fresh threshold discipline seed)
 unfolding open_checks fresh rates active_rate standing ordered

@@ -1,4 +1,4 @@
--- The calls other than tick against erasure. A kept call gets the same answer from a core and from its erasure, and
+-- The six calls other than tick against erasure. A kept call gets the same answer from a core and from its erasure, and
 -- leaves cores that are erased alike; an arrive or load of a private neighbour, or of nobody, leaves the erasure as it was.
 -- The tests of a kept call read kinds and rates, and those of a kept arrive or load what the client that it names has:
 -- none of it is erased. Assumes nothing.
@@ -9,14 +9,12 @@ use mathlib.Core.List.{List}
 use lib.Dec.{eqb, ltb}
 use borrow.Author.Tests.{eqb-true}
 use Rattle.definitions.specs.declared.Packet.{Packet}
-use Rattle.definitions.specs.declared.StateLine.{StateLine}
-use Rattle.definitions.specs.Sizes.{ids, places, handle_limit}
+use Rattle.definitions.specs.Sizes.{ids}
 use Rattle.definitions.specs.Client.{Client, Kind, absent, indifferent, private, is_active, is_indifferent, kind_of, same_kind, nobody, with_level, joining, retuned, changed, charged}
 use Rattle.definitions.specs.Stock.{Stock, bare, loaded, queued}
-use Rattle.definitions.specs.State.{Side, State, Core, unopened, running, fresh, updated, put, stocked, emptied}
+use Rattle.definitions.specs.State.{Side, State, Core, running, fresh, updated, put, stocked, emptied}
 use Rattle.definitions.specs.Checks.{Result, Check, checked, unchanged, accepted, refused, open_checks, join_checks, active_checks, change_checks, leave_checks, load_checks, arrive_checks}
 use Rattle.definitions.specs.Calls.{on_open, on_join, side_after_change, on_change, on_leave, on_load, order_after_arrival, side_after_arrival, on_arrive}
-use Rattle.definitions.specs.TakingUp.{taken, take_up_checks, on_take_up_in, on_take_up, on_hand_over}
 use Rattle.definitions.proofs.Laws.Tests.{true-false}
 use Rattle.definitions.proofs.Laws.Checked.{checked-cases, checked_rel}
 use Rattle.definitions.proofs.Laws.Clients.{put_same, put_other, put_keeps, put_own}
@@ -49,29 +47,17 @@ module _ (chosen : ℕ) where
   updated_alike s clients side side' g o e =
       erase_path chosen (updated s clients side) (updated (erase chosen s) clients side') refl refl refl g o e
 
-  -- a state in place of any earlier one: where it is refused both keep what they had
-  anew_alike : (core : Core) (cs : List Check) (t : State)
-      → Alike chosen (checked cs (unchanged core) (accepted t)) (checked cs (unchanged (erase_core chosen core)) (accepted t))
-  anew_alike core cs t =
-      checked_rel (Alike chosen) cs (unchanged core) (unchanged (erase_core chosen core)) (accepted t) (accepted t)
-      (λ n. record { answers = refl; cores = erase_core_twice chosen core })
-      (record { answers = refl; cores = refl })
-
   pub open_alike : (core : Core) (threshold discipline seed : ℕ)
       → Alike chosen (on_open core threshold discipline seed) (on_open (erase_core chosen core) threshold discipline seed)
   unfolding on_open
   open_alike core threshold discipline seed =
-      anew_alike core (open_checks threshold discipline seed) (fresh threshold discipline seed)
-
-  pub take_up_alike : (core : Core) (lines : List StateLine)
-      → Alike chosen (on_take_up core lines) (on_take_up (erase_core chosen core) lines)
-  unfolding on_take_up_in
-  take_up_alike core lines = anew_alike core (take_up_checks places handle_limit lines) (taken lines)
-
-  pub hand_over_alike : (core : Core) → Alike chosen (on_hand_over core) (on_hand_over (erase_core chosen core))
-  unfolding on_hand_over erase_core
-  hand_over_alike unopened = record { answers = refl; cores = refl }
-  hand_over_alike (running s) = record { answers = refl; cores = ap running (erase_twice chosen s) }
+      checked_rel (Alike chosen) (open_checks threshold discipline seed)
+      (unchanged core) (unchanged (erase_core chosen core)) done done
+      (λ n. record { answers = refl; cores = erase_core_twice chosen core })
+      (record { answers = refl; cores = refl })
+    where
+      done : Result
+      done = accepted (fresh threshold discipline seed)
 
   module _ (s : State) (id : ℕ) where
     -- one client anew, whose stock is as good as the one in the erasure

@@ -8,19 +8,18 @@ use Rattle.definitions.specs.declared.Packet.{Packet}
 use Rattle.definitions.specs.declared.Outcome.TheVariants.{Real, Dummy, Idle, None}
 use Rattle.definitions.specs.declared.Answer.{Answer}
 use Rattle.definitions.specs.declared.Answer.TheVariants.{Accepted, Refused, Slot}
-use Rattle.definitions.specs.Event.{Event, Open, Join, Change, Leave, Load, Arrive, Tick, TakeUp, HandOver}
+use Rattle.definitions.specs.Event.{Event, Open, Join, Change, Leave, Load, Arrive, Tick}
 use Rattle.definitions.specs.State.{Core, unopened, running}
 use Rattle.definitions.specs.Answers.{is_accepted, bears, is_departure}
 use Rattle.definitions.specs.Checks.{unchanged, load_checks, arrive_checks}
 use Rattle.definitions.specs.Calls.{on_load, on_arrive}
 use Rattle.definitions.specs.Core.{step}
 use Rattle.definitions.specs.History.{History, start, ◌then◌, Trace, begin, ◌and◌, client_of, scheduler, after, answer_at, dealing_at, trace_of}
-use Rattle.definitions.specs.Traces.{is_tick, is_take_up, took_up, indifferent_by, indifferent_since, indifferent_at}
+use Rattle.definitions.specs.Traces.{is_tick, indifferent_by, indifferent_since, indifferent_at}
 use Rattle.definitions.specs.Counts.{Count, Tally, zeros, Entry, nothing, entry_of_accepted, entry_of_refused, entry_of_slot, entry_of, entered, unsettled, tallied, gained}
 use Rattle.definitions.specs.Sameness.{is_struck, kept}
 use Rattle.definitions.proofs.Laws.Tests.{true-false, cond_same, eqb_same}
 use Rattle.definitions.proofs.Laws.Checked.{checked-cases}
-use Rattle.definitions.proofs.Counts.{took_lines}
 use Rattle.definitions.proofs.Sameness.Erase.{hidden}
 use Rattle.definitions.proofs.Sameness.Kinds.{trace, holds_indifferent, indifferent_held}
 use Rattle.definitions.proofs.Sameness.Watched.{Watched, watched_apart}
@@ -55,8 +54,6 @@ module _ (chosen id : ℕ) (i : Bool) (w : ℕ) where
   struck_entry h (Load j n) watched e = load_entry (after scheduler h) j n
   struck_entry h (Arrive j p) watched e = arrive_entry (after scheduler h) j p (watched_apart chosen id h j watched e)
   struck_entry h Tick watched e = true-false e refl
-  struck_entry h (TakeUp lines) watched e = true-false e refl
-  struck_entry h HandOver watched e = true-false e refl
 
   -- another's slot
   tick_entry : (a : Answer) → is_departure id a ≡ false → entry_of id i w Tick a ≡ nothing
@@ -86,33 +83,10 @@ module _ (chosen id : ℕ) (i : Bool) (w : ℕ) where
           → entry_of id i w Tick (answer_at scheduler h Tick) ≡ entry_of id i w Tick (answer_at scheduler k Tick)
       go true d = ap (entry_of id i w Tick) (alike_departed chosen a id seen d)
       go false d = tick_entry _ d ∙ sym (tick_entry _ (sym (alike_departure chosen a id) ∙ d))
-  kept_entry a (TakeUp lines) e watched = ap (entry_of id i w (TakeUp lines)) (alike_answer chosen a (TakeUp lines) e refl)
-  kept_entry a HandOver e watched = ap (entry_of id i w HandOver) (alike_answer chosen a HandOver e refl)
 
 -- ---- histories
 
 module _ (chosen : ℕ) where
-  -- a kept call took a printed state up in both, or in neither
-  kept_took : {h k : History} → AlikeAt chosen h k → (c : Event) → is_struck chosen (trace h) c ≡ false
-      → took_up (dealing_at scheduler h c) ≡ took_up (dealing_at scheduler k c)
-  unfolding took_up dealing_at is_tick
-  kept_took {h} {k} a c e = go (is_take_up c) refl
-    where
-      go : (b : Bool) → is_take_up c ≡ b
-          → (is_accepted (answer_at scheduler h c) && is_take_up c) ≡ (is_accepted (answer_at scheduler k c) && is_take_up c)
-      go true t = ap (λ (x : Answer). is_accepted x && is_take_up c) (alike_answer chosen a c e (ap is_tick (took_lines c t).1))
-      go false t =
-          rw (t, and-false (is_accepted (answer_at scheduler h c)), and-false (is_accepted (answer_at scheduler k c)))
-
-  -- and a struck-out call took none
-  struck_took : (h : History) (c : Event) → is_struck chosen (trace h) c ≡ true → took_up (dealing_at scheduler h c) ≡ false
-  unfolding took_up dealing_at is_struck
-  struck_took h c e = go (is_take_up c) refl
-    where
-      go : (b : Bool) → is_take_up c ≡ b → (is_accepted (answer_at scheduler h c) && b) ≡ false
-      go true t = true-false e (ap (is_struck chosen (trace h)) (took_lines c t).1)
-      go false t = and-false (is_accepted (answer_at scheduler h c))
-
   own : (h : History) → Watched chosen chosen h
   own h = rw (eqb_same chosen)
 
@@ -145,7 +119,7 @@ module _ (chosen : ℕ) where
     gained-none : (t : Trace) → indifferent_at id t ≡ false → gained id t ≡ zeros
     unfolding gained
     gained-none begin e = refl
-    gained-none (t and d) e = rw (e, and-false (indifferent_at id t), and-false (not (took_up d)))
+    gained-none (t and d) e = rw (e, and-false (indifferent_at id t))
 
     -- a struck-out call leaves whoever is indifferent so
     struck_stays : (h : History) (c : Event) → is_struck chosen (trace h) c ≡ true
@@ -158,8 +132,6 @@ module _ (chosen : ℕ) where
     struck_stays h (Load j n) e = cond_same (is_accepted (answer_at scheduler h (Load j n))) _
     struck_stays h (Arrive j p) e = cond_same (is_accepted (answer_at scheduler h (Arrive j p))) _
     struck_stays h Tick e = true-false e refl
-    struck_stays h (TakeUp lines) e = true-false e refl
-    struck_stays h HandOver e = true-false e refl
 
     -- kept calls leave the same indifferent
     kept_stays : (h : History) (c : Event) → is_struck chosen (trace h) c ≡ false
@@ -182,26 +154,16 @@ module _ (chosen : ℕ) where
             → gained id (trace h) ≡ gained id (trace K)
             → gained id (trace (h then c)) ≡ gained id (trace (cond b K (K then c)))
         go true e true i same =
-            rw (i, struck_stays h c e, i, struck_took h c e)
+            rw (i, struck_stays h c e, i)
             (fun_ext (λ count. rw (struck_entry chosen id true 0 h c (watched h i) e) (ap (λ tally. tally count) same)))
-        go true e false i same =
-            rw (i, and-false (not (took_up (dealing_at scheduler h c))))
-            (sym (gained-none (trace K) (sym (alike_indifferent chosen (kept_alike_lem chosen h) id) ∙ i)))
+        go true e false i same = rw i (sym (gained-none (trace K) (sym (alike_indifferent chosen (kept_alike_lem chosen h) id) ∙ i)))
         go false e true i same =
-            rw (alike_indifferent chosen (kept_alike_lem chosen h) id, kept_stays h c e, kept_took (kept_alike_lem chosen h) c e)
+            rw (alike_indifferent chosen (kept_alike_lem chosen h) id, kept_stays h c e)
             (ap₂ (λ (entry : Entry) (tally : Tally).
-            cond
-            (not (took_up (dealing_at scheduler K c)) && (indifferent_at id (trace K) && indifferent_at id (trace (K then c))))
-            (entered ◌+◌ entry tally) zeros)
+            cond (indifferent_at id (trace K) && indifferent_at id (trace (K then c))) (entered ◌+◌ entry tally) zeros)
             (kept_entry chosen id _ 0 (kept_alike_lem chosen h) c e (watched h i))
             same)
-        go false e false i same =
-            rw (
-              i,
-              sym (alike_indifferent chosen (kept_alike_lem chosen h) id) ∙ i,
-              and-false (not (took_up (dealing_at scheduler h c))),
-              and-false (not (took_up (dealing_at scheduler K c))),
-            )
+        go false e false i same = rw (i, sym (alike_indifferent chosen (kept_alike_lem chosen h) id) ∙ i)
 
     pub gained_same : (h k : History) → kept chosen (trace h) ≡ kept chosen (trace k)
         → gained id (trace h) ≡ gained id (trace k)

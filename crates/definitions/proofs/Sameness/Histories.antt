@@ -6,7 +6,7 @@ use mathlib.Core.Path.{◌≡◌, refl, sym, ap, ap₂, ◌∙◌}
 use mathlib.Core.Bool.{Bool, true, false, cond, not, ◌&&◌}
 use mathlib.Core.List.{List, ◌∷◌}
 use lib.Dec.{eqb}
-use Rattle.definitions.specs.Event.{Event, Open, Join, Change, Leave, Load, Arrive, Tick, TakeUp, HandOver}
+use Rattle.definitions.specs.Event.{Event, Open, Join, Change, Leave, Load, Arrive, Tick}
 use Rattle.definitions.specs.Client.{Client, Kind, absent, indifferent, private, is_indifferent, is_private}
 use Rattle.definitions.specs.State.{Core, unopened, running}
 use Rattle.definitions.specs.Answers.{is_departure}
@@ -17,7 +17,7 @@ use Rattle.definitions.specs.Sameness.{is_tick, indifferent_at, is_struck, kept,
 use borrow.Author.Tests.{not-true}
 use Rattle.definitions.proofs.Laws.Tests.{true-false, and_both}
 use Rattle.definitions.proofs.Sameness.Erase.{hidden, shown_open, erase, erase_core}
-use Rattle.definitions.proofs.Sameness.Calls.{Alike, open_alike, take_up_alike, hand_over_alike, join_alike, change_alike, leave_alike, load_alike, arrive_alike, load_struck, arrive_struck}
+use Rattle.definitions.proofs.Sameness.Calls.{Alike, open_alike, join_alike, change_alike, leave_alike, load_alike, arrive_alike, load_struck, arrive_struck}
 use Rattle.definitions.proofs.Sameness.Slot.{turn_erased, tick_departure, tick_answer, tick_cores}
 use Rattle.definitions.proofs.Sameness.Kinds.{trace, dealt, holds_indifferent, indifferent_held}
 
@@ -31,8 +31,6 @@ module _ (chosen : ℕ) where
   Seen core (Load j n) = hidden chosen j (client_of core j) ≡ false
   Seen core (Arrive j p) = hidden chosen j (client_of core j) ≡ false
   Seen core Tick = Unit {0}
-  Seen core (TakeUp lines) = Unit {0}
-  Seen core HandOver = Unit {0}
 
   -- ---- one call
 
@@ -54,8 +52,6 @@ module _ (chosen : ℕ) where
   step_erased (running s) (Load j n) e = both (Load j n) (load_alike chosen s j e n)
   step_erased (running s) (Arrive j p) e = both (Arrive j p) (arrive_alike chosen s j e p)
   step_erased (running s) Tick e = record { cores = tick_cores chosen s; answers = λ n. true-false refl n }
-  step_erased (running s) (TakeUp lines) e = both (TakeUp lines) (take_up_alike chosen (running s) lines)
-  step_erased (running s) HandOver e = both HandOver (hand_over_alike chosen (running s))
 
   -- the same of two cores that are erased alike
   step_alike : (x y : Core) (c : Event) → erase_core chosen x ≡ erase_core chosen y → Seen x c → Seen y c → StepAlike x y c
@@ -100,8 +96,6 @@ module _ (chosen : ℕ) where
   alike_struck a (Load j n) = rw (alike_indifferent a j)
   alike_struck a (Arrive j p) = rw (alike_indifferent a j)
   alike_struck a Tick = refl
-  alike_struck a (TakeUp lines) = refl
-  alike_struck a HandOver = refl
 
   -- ---- what is struck out
 
@@ -135,8 +129,6 @@ module _ (chosen : ℕ) where
       go unopened apart = refl
       go (running s) apart = arrive_struck chosen s j apart.0 apart.1 p
   struck_erased h Tick e = true-false e refl
-  struck_erased h (TakeUp lines) e = true-false e refl
-  struck_erased h HandOver e = true-false e refl
 
   -- the chosen client is not hidden, nor is an indifferent one
   pub hidden_not : (id : ℕ) (c : Client) → not (eqb id chosen) && not (is_indifferent c.kind) ≡ false
@@ -160,8 +152,6 @@ module _ (chosen : ℕ) where
   kept_seen h (Load j n) e = hidden_not j (client_of (after scheduler h) j) (rw (indifferent_held j h) at e)
   kept_seen h (Arrive j p) e = hidden_not j (client_of (after scheduler h) j) (rw (indifferent_held j h) at e)
   kept_seen h Tick e = tt
-  kept_seen h (TakeUp lines) e = tt
-  kept_seen h HandOver e = tt
 
   -- ---- a history and its kept calls
 

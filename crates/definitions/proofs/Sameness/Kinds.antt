@@ -14,7 +14,6 @@ use Rattle.definitions.specs.History.{History, start, ◌then◌, Dealing, Trace
 use Rattle.definitions.specs.Sameness.{indifferent_by, indifferent_since, indifferent_at}
 use Rattle.definitions.specs.Stretch.{stretch, behind}
 use Rattle.definitions.proofs.Laws.Kinds.{same_kind-true, kind_of_indifferent}
-use Rattle.definitions.proofs.TakenClients.{taken_indifferent}
 use Rattle.definitions.proofs.Readings.{Reading, told}
 
 -- what the calls of a history get, as they are defined
@@ -49,8 +48,6 @@ indifferent_reading id = record {
   arrive = λ other p was. refl;
   charge = λ c. refl;
   refill = λ c. refl;
-  taken_up = λ lines was. taken_indifferent id lines;
-  handed_over = λ was. refl;
 }
 
 -- whether an id is indifferent after a call, from whether it was and what the call got

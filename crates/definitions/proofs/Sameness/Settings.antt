@@ -1,19 +1,17 @@
--- Which opens, joins, changes and leaves are accepted follows from these four alone, with what is taken up. They read an outline of the core, the
+-- Which opens, joins, changes and leaves are accepted follows from these four alone. They read an outline of the core, the
 -- threshold and each id's kind and rate, which no load, arrival or tick changes. Assumes nothing.
 use Prim.Native.Nat.{ℕ}
 use mathlib.Core.Path.{◌≡◌, refl, sym, ap, ap₂, ◌∙◌}
 use mathlib.Core.Bool.{Bool, true, false, cond}
 use mathlib.Core.List.{List, [], ◌∷◌}
 use lib.Dec.{eqb}
-use Rattle.definitions.specs.Event.{Event, Open, Join, Change, Leave, Load, Arrive, Tick, TakeUp, HandOver}
+use Rattle.definitions.specs.Event.{Event, Open, Join, Change, Leave, Load, Arrive, Tick}
 use Rattle.definitions.specs.declared.Answer.{Answer}
-use Rattle.definitions.specs.Sizes.{places, handle_limit}
 use Rattle.definitions.specs.Client.{Client, kind_of, same_kind, nobody, joining, retuned, changed, charged, refilled}
 use Rattle.definitions.specs.Stock.{bare, loaded}
 use Rattle.definitions.specs.State.{Side, State, Core, unopened, running, fresh, updated, put, stocked, emptied}
 use Rattle.definitions.specs.Checks.{Result, Check, accepted, checked, unchanged, active_rate, rates, open_checks, join_checks, active_checks, change_checks, leave_checks, load_checks, arrive_checks}
 use Rattle.definitions.specs.Calls.{on_open, on_join, side_after_change, on_change, on_leave, on_load, side_after_arrival, on_arrive}
-use Rattle.definitions.specs.TakingUp.{taken, take_up_checks, on_take_up_in, on_hand_over}
 use Rattle.definitions.specs.Tick.{turn, refill_all, slotted, on_tick}
 use Rattle.definitions.specs.Core.{step}
 use Rattle.definitions.specs.History.{History, start, ◌then◌, scheduler, after, answer_at}
@@ -81,27 +79,16 @@ changed_sketched c kind rate burst = go (same_kind c.kind (kind_of kind))
     go true = refl
     go false = refl
 
-outline_twice : (core : Core) → outline_core core ≡ outline_core (outline_core core)
-unfolding outline_core outline sketched
-outline_twice unopened = refl
-outline_twice (running s) = refl
-
--- a state in place of any earlier one
-anew_alike : (core : Core) (cs : List Check) (t : State)
-    → Alike (checked cs (unchanged core) (accepted t)) (checked cs (unchanged (outline_core core)) (accepted t))
-anew_alike core cs t =
-    checked_rel Alike cs (unchanged core) (unchanged (outline_core core)) (accepted t) (accepted t)
-    (λ n. record { answers = refl; cores = outline_twice core })
-    (record { answers = refl; cores = refl })
-
--- an open, join, change or leave, or what is taken up, on a core and on its outline
+-- an open, join, change or leave on a core and on its outline
 setting_alike : (core : Core) (c : Event) → is_setting c ≡ true → Alike (step core c) (step (outline_core core) c)
-unfolding step outline_core outline sketched is_setting on_open on_join on_change on_leave on_take_up_in on_hand_over
-    join_checks change_checks leave_checks
+unfolding step outline_core outline sketched is_setting on_open on_join on_change on_leave join_checks change_checks leave_checks
     active_checks rates active_rate
 setting_alike unopened c e = record { answers = refl; cores = refl }
 setting_alike (running s) (Open t d v) e =
-    anew_alike (running s) (open_checks t d v) (fresh t d v)
+    checked_rel Alike (open_checks t d v) (unchanged (running s)) (unchanged (running (outline s))) (accepted (fresh t d v))
+    (accepted (fresh t d v))
+    (λ n. record { answers = refl; cores = refl })
+    (record { answers = refl; cores = refl })
 setting_alike (running s) (Join j k r b) e =
     checked_alike s (join_checks s j k r b) (updated s (put s.clients j (joining k r b)) (stocked s.side j bare))
     (updated (outline s) (put (outline s).clients j (joining k r b)) (stocked blank j bare))
@@ -119,8 +106,6 @@ setting_alike (running s) (Leave j) e =
 setting_alike (running s) (Load j n) e = true-false e refl
 setting_alike (running s) (Arrive j p) e = true-false e refl
 setting_alike (running s) Tick e = true-false e refl
-setting_alike (running s) (TakeUp lines) e = anew_alike (running s) (take_up_checks places handle_limit lines) (taken lines)
-setting_alike (running s) HandOver e = record { answers = refl; cores = refl }
 
 -- any other call keeps the outline
 other_kept : (core : Core) (c : Event) → is_setting c ≡ false → outline_core (step core c).core ≡ outline_core core
@@ -132,8 +117,6 @@ other_kept unopened (Leave j) e = refl
 other_kept unopened (Load j n) e = refl
 other_kept unopened (Arrive j p) e = refl
 other_kept unopened Tick e = refl
-other_kept unopened (TakeUp lines) e = true-false refl e
-other_kept unopened HandOver e = true-false refl e
 other_kept (running s) (Open t d v) e = true-false refl e
 other_kept (running s) (Join j k r b) e = true-false refl e
 other_kept (running s) (Change j k r b) e = true-false refl e
@@ -150,8 +133,6 @@ other_kept (running s) (Arrive j p) e =
     (λ passed. ap running (outline_path (updated s (put s.clients j (charged (s.clients j))) (side_after_arrival s j p)) s refl
     (put_keeps s.clients j (charged (s.clients j)) sketched refl)))
 other_kept (running s) Tick e = ap running (outline_path (slotted s (turn s)) s refl (λ id. refl))
-other_kept (running s) (TakeUp lines) e = true-false refl e
-other_kept (running s) HandOver e = true-false refl e
 
 -- ---- histories
 

@@ -7,7 +7,7 @@ use mathlib.Core.Path.{◌≡◌, refl, sym, ap, ap₂, ◌∙◌}
 use mathlib.Core.Bool.{Bool, true, false, cond, not, ◌&&◌, ◌||◌, and-true, and-false}
 use lib.Dec.{eqb}
 use borrow.Author.Tests.{eqb-true}
-use Rattle.definitions.specs.Event.{Event, Open, Join, Change, Leave, Load, Arrive, Tick, TakeUp, HandOver}
+use Rattle.definitions.specs.Event.{Event, Open, Join, Change, Leave, Load, Arrive, Tick}
 use Rattle.definitions.specs.declared.Answer.{Answer}
 use Rattle.definitions.specs.Client.{Client}
 use Rattle.definitions.specs.Stock.{Stock}
@@ -65,8 +65,6 @@ module _ (chosen : ℕ) where
   not_tick_struck h (Load j n) e = refl
   not_tick_struck h (Arrive j p) e = refl
   not_tick_struck h Tick e = sym e
-  not_tick_struck h (TakeUp lines) e = refl
-  not_tick_struck h HandOver e = refl
 
   not_tick_setting : (c : Event) → is_setting c ≡ true → is_tick c ≡ false
   unfolding is_setting is_tick
@@ -77,8 +75,6 @@ module _ (chosen : ℕ) where
   not_tick_setting (Load j n) e = refl
   not_tick_setting (Arrive j p) e = refl
   not_tick_setting Tick e = sym e
-  not_tick_setting (TakeUp lines) e = refl
-  not_tick_setting HandOver e = refl
 
   module _ (id : ℕ) where
     not_tick_named : (c : Event) → names id c ≡ true → is_tick c ≡ false
@@ -90,8 +86,6 @@ module _ (chosen : ℕ) where
     not_tick_named (Load j n) e = refl
     not_tick_named (Arrive j p) e = refl
     not_tick_named Tick e = sym e
-    not_tick_named (TakeUp lines) e = refl
-    not_tick_named HandOver e = refl
 
     -- a struck-out call does not name it
     struck_names : (h : History) (c : Event) → Watched chosen id h → is_struck chosen (trace h) c ≡ true → names id c ≡ false
@@ -103,8 +97,6 @@ module _ (chosen : ℕ) where
     struck_names h (Load j n) w e = watched_apart chosen id h j w e
     struck_names h (Arrive j p) w e = watched_apart chosen id h j w e
     struck_names h Tick w e = refl
-    struck_names h (TakeUp lines) w e = refl
-    struck_names h HandOver w e = refl
 
     module _ (when : Trace → Bool) (steady : (h k : History) → AlikeAt chosen h k → when (trace h) ≡ when (trace k))
         (watched : (h : History) → when (trace h) ≡ true → Watched chosen id h) where
@@ -147,8 +139,6 @@ module _ (chosen : ℕ) where
           departs h k a (Load j n) = refl
           departs h k a (Arrive j p) = refl
           departs h k a Tick = alike_departure chosen a id
-          departs h k a (TakeUp lines) = refl
-          departs h k a HandOver = refl
 
           departed : (h k : History) → AlikeAt chosen h k → (c : Event)
               → when (trace h) && (is_tick c && is_departure id (answer_at scheduler h c)) ≡ true
@@ -162,8 +152,6 @@ module _ (chosen : ℕ) where
           departed h k a Tick w =
               alike_departed chosen a id (seen h (and_both (when (trace h)) (is_departure id (answer_at scheduler h Tick)) w).0)
               (and_both (when (trace h)) (is_departure id (answer_at scheduler h Tick)) w).1
-          departed h k a (TakeUp lines) w = true-false (and_both (when (trace h)) false w).1 refl
-          departed h k a HandOver w = true-false (and_both (when (trace h)) false w).1 refl
 
       -- an arrival that was dropped
       dropped : History → Event → Bool
@@ -226,8 +214,6 @@ module _ (chosen : ℕ) where
       not_setting h (Load j n) e = refl
       not_setting h (Arrive j p) e = refl
       not_setting h Tick e = refl
-      not_setting h (TakeUp lines) e = sym e
-      not_setting h HandOver e = sym e
 
   slots_logged : Logged chosen (λ p d. is_tick d.event) (λ d. d.pick)
   unfolding dealing_at

@@ -11,7 +11,7 @@ use lib.Dec.{T, leb, ltb, lit<}
 use lib.ListN.{length}
 use borrow.Author.Tests.{le-leb, lt-leb, lt-ltb}
 use Rattle.definitions.specs.declared.Packet.{Packet}
-use Rattle.definitions.specs.Event.{Event, Open, Join, Change, Leave, Load, Arrive, Tick, TakeUp, HandOver}
+use Rattle.definitions.specs.Event.{Event, Open, Join, Change, Leave, Load, Arrive, Tick}
 use Rattle.definitions.specs.declared.Answer.TheVariants.{Accepted, Refused}
 use Rattle.definitions.specs.Sizes.{ids, places, shares, shortest, longest, indifferent_kind}
 use Rattle.definitions.specs.Client.{private, Client, kind_of, is_indifferent, joining, changed}
@@ -91,10 +91,6 @@ step-none core id (Load other dummies) indifferently spared none empty =
     step_waits core id (Load other dummies) indifferently refl spared ∙ rw none empty
 step-none core id (Arrive other p) indifferently spared none empty =
     step_waits core id (Arrive other p) indifferently refl spared ∙ rw none empty
-step-none core id (TakeUp lines) indifferently spared none empty =
-    step_waits core id (TakeUp lines) indifferently refl spared ∙ rw none empty
-step-none core id HandOver indifferently spared none empty =
-    step_waits core id HandOver indifferently refl spared ∙ rw none empty
 
 module _ (core : Core) (id rate burst : ℕ) (begun : Begun core id rate burst) where
   indifferently : T (is_indifferent (client_of core id).kind)

@@ -8,7 +8,7 @@ use mathlib.Core.Bool.{Bool, true, false, cond, not, ◌&&◌}
 use native.Mathlib.Omega.{arith}
 use lib.Dec.{T}
 use lib.ListN.{length}
-use Rattle.definitions.specs.Event.{Event, Open, Join, Change, Leave, Load, Arrive, Tick, TakeUp, HandOver}
+use Rattle.definitions.specs.Event.{Event, Open, Join, Change, Leave, Load, Arrive, Tick}
 use Rattle.definitions.specs.Sizes.{ids}
 use Rattle.definitions.specs.Draw.{sum_below}
 use Rattle.definitions.specs.Client.{Kind, private, Client, is_indifferent, is_private, refilled}
@@ -209,8 +209,6 @@ step_shared core (Change id kind rate burst) accepted known active spared =
 step_shared core (Leave id) accepted known active spared = sym (call_shared core (Leave id) accepted refl spared)
 step_shared core (Load id dummies) accepted known active spared = sym (call_shared core (Load id dummies) accepted refl spared)
 step_shared core (Arrive id p) accepted known active spared = sym (call_shared core (Arrive id p) accepted refl spared)
-step_shared core (TakeUp lines) accepted known active spared = sym (call_shared core (TakeUp lines) accepted refl spared)
-step_shared core HandOver accepted known active spared = sym (call_shared core HandOver accepted refl spared)
 
 pub behind-limits : (core : Core) → CoreLimits core → (h : History) → CoreLimits (behind core h)
 unfolding after

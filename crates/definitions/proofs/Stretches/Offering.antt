@@ -8,7 +8,7 @@ use mathlib.Core.Bool.{Bool, true, false, cond, not, ◌&&◌, ◌||◌}
 use native.Mathlib.Nat.{lt_irrefl, lt_of_lt_of_le}
 use native.Mathlib.Omega.{arith}
 use lib.Dec.{T, eqb, lit<}
-use Rattle.definitions.specs.Event.{Event, Open, Join, Change, Leave, Load, Arrive, Tick, TakeUp, HandOver}
+use Rattle.definitions.specs.Event.{Event, Open, Join, Change, Leave, Load, Arrive, Tick}
 use Rattle.definitions.specs.Sizes.{places, shares}
 use Rattle.definitions.specs.Client.{is_indifferent}
 use Rattle.definitions.specs.State.{Core}
@@ -32,8 +32,6 @@ tick_no_offer id (Leave other) e = refl
 tick_no_offer id (Load other dummies) e = refl
 tick_no_offer id (Arrive other p) e = true-false e refl
 tick_no_offer id Tick e = refl
-tick_no_offer id (TakeUp lines) e = true-false e refl
-tick_no_offer id HandOver e = true-false e refl
 
 -- a refusal that was met was met in the present offering, also with one answer more
 met_on : (ever since now : Bool) → (ever ≡ false) ⊎ T since → ((ever || now) ≡ false) ⊎ T (since || now)

@@ -5,14 +5,12 @@ use mathlib.Core.Path.{◌≡◌, refl, ◌∙◌}
 use mathlib.Core.Bool.{Bool, true, false, not, ◌&&◌}
 use mathlib.Core.List.{List}
 use lib.Dec.{T}
-use Rattle.definitions.specs.Event.{Event, Open, Join, Change, Leave, Load, Arrive, Tick, TakeUp, HandOver}
-use Rattle.definitions.specs.Sizes.{handle_limit, places}
+use Rattle.definitions.specs.Event.{Event, Open, Join, Change, Leave, Load, Arrive, Tick}
 use Rattle.definitions.specs.Client.{charged, refilled}
 use Rattle.definitions.specs.State.{State, Core, unopened, running, fresh, updated}
 use Rattle.definitions.specs.Answers.{is_accepted}
 use Rattle.definitions.specs.Checks.{Check, accepted, checked, unchanged, open_checks, join_checks, change_checks, leave_checks, load_checks, arrive_checks}
 use Rattle.definitions.specs.Calls.{on_open, on_join, on_change, on_leave, on_load, on_arrive}
-use Rattle.definitions.specs.TakingUp.{taken, take_up_checks, on_take_up_in, on_hand_over}
 use Rattle.definitions.specs.Core.{step}
 use Rattle.definitions.specs.History.{History, start, ◌then◌, Trace, begin, ◌and◌, after, answer_at, dealing_at, trace_of, client_of}
 use Rattle.definitions.specs.Sameness.{names, is_setting}
@@ -36,8 +34,6 @@ spared_resets id c true spared = go c spared
     go (Load other dummies) t = tt
     go (Arrive other packet) t = tt
     go Tick t = tt
-    go (TakeUp lines) t = t
-    go HandOver t = t
 spared_resets id c false spared = go (resets id c)
   where
     go : (b : Bool) → T (not (b && false))
@@ -79,7 +75,6 @@ pub step_kind : (core : Core) (id : ℕ) (c : Event)
     → T (not (is_setting c && is_accepted (step core c).answer))
     → (client_of (step core c).core id).kind ≡ (client_of core id).kind
 unfolding step client_of updated is_setting is_accepted charged refilled on_open on_join on_change on_leave on_load on_arrive
-    on_take_up_in on_hand_over
 step_kind unopened id (Open threshold discipline seed) spared =
     checked-cases (λ r. T (not (is_accepted r.answer)) → (client_of r.core id).kind ≡ (client_of unopened id).kind)
     (open_checks threshold discipline seed) (unchanged unopened) (accepted (fresh threshold discipline seed))
@@ -92,13 +87,6 @@ step_kind unopened id (Leave other) spared = refl
 step_kind unopened id (Load other dummies) spared = refl
 step_kind unopened id (Arrive other p) spared = refl
 step_kind unopened id Tick spared = refl
-step_kind unopened id (TakeUp lines) spared =
-    checked-cases (λ r. T (not (is_accepted r.answer)) → (client_of r.core id).kind ≡ (client_of unopened id).kind)
-    (take_up_checks places handle_limit lines) (unchanged unopened) (accepted (taken lines))
-    (λ number spared. refl)
-    (λ passed spared. absurd spared)
-    spared
-step_kind unopened id HandOver spared = refl
 step_kind (running s) id (Open threshold discipline seed) spared =
     checked_kind s id true (open_checks threshold discipline seed) _ (true-false refl) spared
 step_kind (running s) id (Join other kind rate burst) spared =
@@ -112,9 +100,6 @@ step_kind (running s) id (Arrive other p) spared =
     (λ kept. put_keeps s.clients other (charged (s.clients other)) (λ c. c.kind) refl id)
     spared
 step_kind (running s) id Tick spared = rw (tick_client s id)
-step_kind (running s) id (TakeUp lines) spared =
-    checked_kind s id true (take_up_checks places handle_limit lines) (taken lines) (true-false refl) spared
-step_kind (running s) id HandOver spared = absurd spared
 
 pub stretch_kind : (core : Core) (id : ℕ) (calls : History)
     → T (steady (stretch core calls))

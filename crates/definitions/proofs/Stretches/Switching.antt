@@ -3,32 +3,30 @@
 -- are paid for by what came in during it. Assumes nothing.
 use Prim.Native.Nat.{ℕ, ◌+◌, ◌-◌, ◌*◌, ◌/◌, ◌≤◌, min, max}
 use mathlib.Core.Path.{◌≡◌, refl, sym, ap, ◌∙◌}
-use mathlib.Core.Bool.{Bool, true, false, cond, not, ◌&&◌, ◌||◌, and-false}
+use mathlib.Core.Bool.{Bool, true, false, cond, not, ◌&&◌, ◌||◌}
 use mathlib.Core.List.{List}
-use native.Mathlib.Nat.{zero-add, le-div_iff_mul-le, div-mul-le_self, mul-le-mul_left, mul-le-mul}
+use native.Mathlib.Nat.{le-div_iff_mul-le, div-mul-le_self, mul-le-mul_left, mul-le-mul}
 use native.Mathlib.Omega.{arith}
 use lib.Dec.{T, eqb, leb}
 use borrow.Author.Tests.{eq-eqb, ne_eqb, leb-true}
 use Rattle.definitions.specs.declared.Packet.{Packet}
-use Rattle.definitions.specs.Event.{Event, Open, Join, Change, Leave, Load, Arrive, Tick, TakeUp, HandOver}
-use Rattle.definitions.specs.Sizes.{places, handle_limit, shares}
+use Rattle.definitions.specs.Event.{Event, Open, Join, Change, Leave, Load, Arrive, Tick}
+use Rattle.definitions.specs.Sizes.{shares}
 use Rattle.definitions.specs.Client.{Client, is_indifferent, kind_of, same_kind, nobody, joining, retuned, changed, charged, refilled}
 use Rattle.definitions.specs.Stock.{bare, loaded}
 use Rattle.definitions.specs.State.{State, Core, unopened, running, fresh, updated, put, stocked, emptied}
 use Rattle.definitions.specs.Answers.{is_accepted}
 use Rattle.definitions.specs.Checks.{Check, accepted, checked, unchanged, open_checks, active_checks, join_checks, change_checks, leave_checks, load_checks, arrive_checks}
 use Rattle.definitions.specs.Calls.{on_open, on_join, side_after_change, on_change, on_leave, on_load, side_after_arrival, on_arrive}
-use Rattle.definitions.specs.TakingUp.{taken, take_up_checks, on_take_up_in, on_hand_over}
 use Rattle.definitions.specs.Core.{step}
 use Rattle.definitions.specs.History.{History, start, ◌then◌, Trace, begin, ◌and◌, after, answer_at, dealing_at, trace_of, client_of, scheduler}
-use Rattle.definitions.specs.Sameness.{names, is_arrival, is_tick, is_take_up, took_up}
+use Rattle.definitions.specs.Sameness.{names, is_arrival, is_tick}
 use Rattle.definitions.specs.Stretch.{stretch, behind, one_if, ticks, is_offer, undisturbed, acceptances, tokens, bought}
-use Rattle.definitions.specs.Switching.{level_by_lines, level_taken, levels_taken, rate_by, bucket_of, indifferent_in, rate_in, is_refill, refills, top_rate, admissions, income, credit, closed, affordable, BySpells, ByTicks, Unswitched, Switching}
-use Rattle.definitions.proofs.Laws.Tests.{T_true, true-false, and_both, cond_same}
+use Rattle.definitions.specs.Switching.{rate_by, bucket_of, indifferent_in, rate_in, is_refill, refills, top_rate, admissions, income, credit, closed, affordable, BySpells, ByTicks, Unswitched, Switching}
+use Rattle.definitions.proofs.Laws.Tests.{T_true, cond_same}
 use Rattle.definitions.proofs.Laws.Checked.{Passed, checked-cases, checked_spared}
 use Rattle.definitions.proofs.Laws.Clients.{put-cases}
 use Rattle.definitions.proofs.Facts.{tick_client}
-use Rattle.definitions.proofs.TakenClients.{taken_rate, taken_bucket}
 use Rattle.definitions.proofs.Readings.{Reading, told}
 use Rattle.definitions.proofs.Sameness.Kinds.{holds_indifferent, indifferent_since_lem}
 use Rattle.definitions.proofs.Bound.{calm_before, stretch-moved, shares_positive}
@@ -129,82 +127,44 @@ module _ (s : State) (id : ℕ) where
       (λ j ne. rw (ne_eqb other j (λ q. ne (sym q))) (same (s.clients j)))
       id
 
--- what each call does, whoever is called; a printed state that is taken up brings a level of its own
+-- what each call does, whoever is called
 step_paid : (core : Core) (id : ℕ) (c : Event)
-    → (is_accepted (step core c).answer && is_take_up c) ≡ false
     → Paid (is_offer id c && is_accepted (step core c).answer) (is_tick c) (client_of core id) (client_of (step core c).core id)
-unfolding step client_of updated fresh is_accepted is_offer is_arrival is_tick is_take_up names on_open on_join on_change on_leave on_load on_arrive
-    on_take_up_in on_hand_over
-step_paid unopened id (Open threshold discipline seed) e =
+unfolding step client_of updated fresh is_accepted is_offer is_arrival is_tick names on_open on_join on_change on_leave on_load on_arrive
+step_paid unopened id (Open threshold discipline seed) =
     checked-cases (λ r. Paid false false nobody (client_of r.core id)) (open_checks threshold discipline seed)
     (unchanged unopened) (accepted (fresh threshold discipline seed)) (λ number. unheld _ _) (λ passed. unheld _ _)
-step_paid unopened id (Join other kind rate burst) e = unheld _ _
-step_paid unopened id (Change other kind rate burst) e = unheld _ _
-step_paid unopened id (Leave other) e = unheld _ _
-step_paid unopened id (Load other dummies) e = unheld _ _
-step_paid unopened id (Arrive other p) e = unheld _ _
-step_paid unopened id Tick e = unheld _ _
-step_paid unopened id (TakeUp lines) e =
-    checked-cases (λ r. (is_accepted r.answer && true) ≡ false → Paid false false nobody (client_of r.core id))
-    (take_up_checks places handle_limit lines) (unchanged unopened) (accepted (taken lines)) (λ number refused. unheld _ _)
-    (λ passed refused. true-false refl refused) e
-step_paid unopened id HandOver e = unheld _ _
-step_paid (running s) id (Open threshold discipline seed) e =
+step_paid unopened id (Join other kind rate burst) = unheld _ _
+step_paid unopened id (Change other kind rate burst) = unheld _ _
+step_paid unopened id (Leave other) = unheld _ _
+step_paid unopened id (Load other dummies) = unheld _ _
+step_paid unopened id (Arrive other p) = unheld _ _
+step_paid unopened id Tick = unheld _ _
+step_paid (running s) id (Open threshold discipline seed) =
     checked_paid s id false (open_checks threshold discipline seed) (fresh threshold discipline seed)
     (λ passed. lowered (s.clients id) nobody (omega (arith, nobody-empty)))
-step_paid (running s) id (Join other kind rate burst) e =
+step_paid (running s) id (Join other kind rate burst) =
     checked_paid s id false (join_checks s other kind rate burst)
     (updated s (put s.clients other (joining kind rate burst)) (stocked s.side other bare))
     (λ passed. put_paid s id other (joining kind rate burst) (omega (arith, joining-empty kind rate burst)))
-step_paid (running s) id (Change other kind rate burst) e =
+step_paid (running s) id (Change other kind rate burst) =
     checked_paid s id false (change_checks s other kind rate burst)
     (updated s (put s.clients other (changed (s.clients other) kind rate burst)) (side_after_change s other kind))
     (λ passed. put_paid s id other (changed (s.clients other) kind rate burst)
     (changed_lowers (s.clients other) kind rate burst))
-step_paid (running s) id (Leave other) e =
+step_paid (running s) id (Leave other) =
     checked_paid s id false (leave_checks s other)
     (updated s (put s.clients other nobody) (emptied s.side other))
     (λ passed. put_paid s id other nobody (omega (arith, nobody-empty)))
-step_paid (running s) id (Load other dummies) e =
+step_paid (running s) id (Load other dummies) =
     checked_paid s id false (load_checks s other dummies)
     (updated s s.clients (stocked s.side other (loaded (s.side.stocks other) dummies)))
     (λ passed. same (s.clients id))
-step_paid (running s) id (Arrive other p) e =
+step_paid (running s) id (Arrive other p) =
     checked_paid s id (eqb other id) (arrive_checks s other p)
     (updated s (put s.clients other (charged (s.clients other))) (side_after_arrival s other p))
     (λ passed. arrive_paid s id other p passed)
-step_paid (running s) id Tick e = rw (tick_client s id) (refilled_paid (s.clients id))
-step_paid (running s) id (TakeUp lines) e =
-    checked-cases (λ r. (is_accepted r.answer && true) ≡ false → Paid false false (s.clients id) (client_of r.core id))
-    (take_up_checks places handle_limit lines) (unchanged (running s)) (accepted (taken lines)) (λ number refused. same (s.clients id))
-    (λ passed refused. true-false refl refused) e
-step_paid (running s) id HandOver e = same (s.clients id)
-
--- what is in the bucket behind a printed state that is taken up, which is no offer
-record LevelTaken (core : Core) (id : ℕ) (c : Event) : Type 0 where
-  held : bucket_of (client_of (step core c).core id) ≤ level_taken id c
-  unoffered : is_offer id c ≡ false
-
-step-taken : (core : Core) (id : ℕ) (c : Event) → is_accepted (step core c).answer ≡ true → is_take_up c ≡ true → LevelTaken core id c
-unfolding step client_of is_accepted is_offer is_arrival is_take_up level_taken on_take_up_in
-step-taken core id (Open threshold discipline seed) e took = true-false took refl
-step-taken core id (Join other kind rate burst) e took = true-false took refl
-step-taken core id (Change other kind rate burst) e took = true-false took refl
-step-taken core id (Leave other) e took = true-false took refl
-step-taken core id (Load other dummies) e took = true-false took refl
-step-taken core id (Arrive other p) e took = true-false took refl
-step-taken core id Tick e took = true-false took refl
-step-taken core id (TakeUp lines) e took = record {
-  held =
-      checked-cases
-      (λ r. is_accepted r.answer ≡ true → bucket_of (client_of r.core id) ≤ level_by_lines id lines 0)
-      (take_up_checks places handle_limit lines) (unchanged core) (accepted (taken lines))
-      (λ number refused. true-false refused refl)
-      (λ passed accepts. omega (arith, taken_bucket id lines))
-      e;
-  unoffered = refl;
-}
-step-taken core id HandOver e took = true-false took refl
+step_paid (running s) id Tick = rw (tick_client s id) (refilled_paid (s.clients id))
 
 -- type and rate, as they are read off the calls, are those that the core holds
 rate_reading : (id : ℕ) → Reading id (λ c. c.rate) (rate_by id)
@@ -218,8 +178,6 @@ rate_reading id = record {
   arrive = λ other p was. refl;
   charge = λ c. refl;
   refill = λ c. refl;
-  taken_up = λ lines was. taken_rate id lines;
-  handed_over = λ was. refl;
 }
   where
     go : (b : Bool) (c : Client) (kind rate burst : ℕ) (own : Bool) (was : ℕ)
@@ -278,71 +236,32 @@ module _ {admitted ended came left : ℕ} (l : Ledger admitted ended came left) 
     paid = omega (arith, none refl);
   }
 
-  -- a printed state is taken up: the spell is closed, and another begins with what the state gives the bucket
-  ledger_anew : (level : ℕ) → next ≤ level → Ledger admitted (ended + (came + more) / shares) level next
-  ledger_anew level held = record {
-    present = 0;
-    counted =
-        let tokens : l.present ≤ (came + more) / shares = (le-div_iff_mul-le shares_positive).1 (omega (arith, l.paid)) in
-        omega (arith, l.counted);
-    paid = omega arith;
-  }
-
 bucket_none : (c : Client) → is_indifferent c.kind ≡ false → bucket_of c ≡ 0
 unfolding bucket_of
 bucket_none c e = rw e
 
 module _ (core : Core) (id : ℕ) where
   call_paid : (h : History) (c : Event)
-      → (is_accepted (step (behind core h) c).answer && is_take_up c) ≡ false
       → cond (indifferent_in id (client_of core id) (stretch core h) && (is_offer id c && is_accepted (step (behind core h) c).answer))
       shares 0
       + bucket_of (client_of (step (behind core h) c).core id)
       ≤ bucket_of (client_of (behind core h) id)
       + cond (indifferent_in id (client_of core id) (stretch core h) && is_tick c) (rate_in id (client_of core id) (stretch core h)) 0
   unfolding Paid
-  call_paid h c e = rw (held_kind core id h, held_rate core id h) (step_paid (behind core h) id c e)
-
-  -- a call more
-  module _ (h : History) (c : Event) where
-    abbrev was : Bool
-    was = indifferent_in id (client_of core id) (stretch core h)
-
-    abbrev is : Bool
-    is = indifferent_in id (client_of core id) (stretch core (h then c))
-
-    abbrev accepts : Bool
-    accepts = is_accepted (step (behind core h) c).answer
-
-    abbrev admits : Bool
-    admits = was && (is_offer id c && accepts)
-
-    abbrev brought : ℕ
-    brought = cond (was && is_tick c) (rate_in id (client_of core id) (stretch core h)) 0
-
-    abbrev next : ℕ
-    next = bucket_of (client_of (step (behind core h) c).core id)
-
-    ledger_step : {admitted ended came : ℕ} → Ledger admitted ended came (bucket_of (client_of (behind core h) id)) → (took : Bool)
-        → (accepts && is_take_up c) ≡ took
-        → Ledger (one_if admits admitted) (ended + cond (not took && is) 0 ((came + brought) / shares))
-        (cond took (level_taken id c) (cond is (came + brought) 0))
-        next
-    unfolding after
-    ledger_step l false e =
-        ledger_on l next brought admits is (call_paid h c e)
-        (λ f. bucket_none (client_of (behind core (h then c)) id) (sym (held_kind core id (h then c)) ∙ f))
-    ledger_step l true e =
-        let both = and_both accepts (is_take_up c) e in
-        let took = step-taken (behind core h) id c both.0 both.1 in
-        rw (took.unoffered, and-false was) (ledger_anew l next brought (level_taken id c) took.held)
+  call_paid h c = rw (held_kind core id h, held_rate core id h) (step_paid (behind core h) id c)
 
   ledger : (h : History)
       → Ledger (admissions id (client_of core id) (stretch core h)) (closed id (client_of core id) (stretch core h))
       (credit id (client_of core id) (stretch core h)) (bucket_of (client_of (behind core h) id))
-  unfolding admissions closed credit income is_refill took_up trace_of dealing_at answer_at after
+  unfolding admissions closed credit income is_refill trace_of dealing_at answer_at after
   ledger start = record { present = 0; counted = omega arith; paid = omega arith }
-  ledger (h then c) = ledger_step h c (ledger h) (is_accepted (step (behind core h) c).answer && is_take_up c) refl
+  ledger (h then c) =
+      ledger_on (ledger h) (bucket_of (client_of (behind core (h then c)) id))
+      (cond (indifferent_in id (client_of core id) (stretch core h) && is_tick c) (rate_in id (client_of core id) (stretch core h)) 0)
+      (indifferent_in id (client_of core id) (stretch core h) && (is_offer id c && is_accepted (step (behind core h) c).answer))
+      (indifferent_in id (client_of core id) (stretch core (h then c)))
+      (call_paid h c)
+      (λ e. bucket_none (client_of (behind core (h then c)) id) (sym (held_kind core id (h then c)) ∙ e))
 
   by_spells_lem : (h : History)
       → admissions id (client_of core id) (stretch core h) ≤ affordable id (client_of core id) (stretch core h)
@@ -357,36 +276,27 @@ closing : (b : Bool) (ended came : ℕ) → (ended + cond b 0 (came / shares)) *
 closing true ended came = omega arith
 closing false ended came = omega (arith, div-mul-le_self came shares)
 
--- nor where a printed state closes the spell, whose level comes in
-closing_taken : (took is : Bool) (ended came level : ℕ)
-    → (ended + cond (not took && is) 0 (came / shares)) * shares + cond took level (cond is came 0)
-    ≤ ended * shares + came + cond took level 0
-closing_taken true is ended came level = omega (arith, div-mul-le_self came shares)
-closing_taken false is ended came level = omega (arith, closing is ended came)
-
 -- a tick more at a rate that is no larger than the largest
 rising : (b : Bool) (n top rate : ℕ) → n * top + cond b rate 0 ≤ one_if b n * cond b (max rate top) top
 rising true n top rate = omega (arith, mul-le-mul_left {m = top} {n = max rate top} n (omega arith))
 rising false n top rate = omega arith
 
 module _ (id : ℕ) (client : Client) where
-  -- all that came in was brought by ticks, at rates up to the largest, or taken up
+  -- all that came in was brought by ticks, at rates up to the largest
   came_in : (t : Trace)
-      → closed id client t * shares + credit id client t
-      ≤ bucket_of client + levels_taken id t + refills id client t * top_rate id client t
-  unfolding closed credit income refills top_rate levels_taken
+      → closed id client t * shares + credit id client t ≤ bucket_of client + refills id client t * top_rate id client t
+  unfolding closed credit income refills top_rate
   came_in begin = omega arith
   came_in (t and d) =
       omega (
         arith,
         came_in t,
-        closing_taken (took_up d) (indifferent_in id client (t and d)) (closed id client t)
-            (credit id client t + cond (is_refill id client t d) (rate_in id client t) 0) (level_taken id d.event),
+        closing (indifferent_in id client (t and d)) (closed id client t)
+            (credit id client t + cond (is_refill id client t d) (rate_in id client t) 0),
         rising (is_refill id client t d) (refills id client t) (top_rate id client t) (rate_in id client t),
       )
 
-  by_ticks_lem : (t : Trace)
-      → affordable id client t ≤ tokens (bucket_of client + levels_taken id t) (top_rate id client t) (refills id client t)
+  by_ticks_lem : (t : Trace) → affordable id client t ≤ tokens (bucket_of client) (top_rate id client t) (refills id client t)
   unfolding tokens
   by_ticks_lem t =
       (le-div_iff_mul-le shares_positive).1 (omega (arith, came_in t, div-mul-le_self (credit id client t) shares))
@@ -445,30 +355,26 @@ switching = record {
   staying = λ core id calls indifferently. unswitched core id indifferently calls;
   by_spells = by_spells_lem;
   by_ticks = within;
-  from_nothing = λ core id calls e. rw (bucket_none (client_of core id) e, zero-add) at (within core id calls);
+  from_nothing = λ core id calls e. rw (bucket_none (client_of core id) e) at (within core id calls);
   nothing_gained = λ h id moves stays greedy.
       gained (after scheduler h) id moves stays (greedy_exact.reached h id stays greedy);
 }
   where
     within : (core : Core) (id : ℕ) (calls : History)
         → admissions id (client_of core id) (stretch core calls)
-        ≤ tokens (bucket_of (client_of core id) + levels_taken id (stretch core calls))
-        (top_rate id (client_of core id) (stretch core calls))
+        ≤ tokens (bucket_of (client_of core id)) (top_rate id (client_of core id) (stretch core calls))
         (refills id (client_of core id) (stretch core calls))
     within core id calls = omega (arith, by_spells_lem core id calls, by_ticks_lem id (client_of core id) (stretch core calls))
 
     gained : (core : Core) (id : ℕ) (moves stays : History)
         → acceptances id (stretch core stays) ≡ bought (client_of core id) (ticks (stretch core stays))
-        → levels_taken id (stretch core moves) ≡ 0
         → top_rate id (client_of core id) (stretch core moves) ≤ (client_of core id).rate
         → refills id (client_of core id) (stretch core moves) ≤ ticks (stretch core stays)
         → admissions id (client_of core id) (stretch core moves) ≤ acceptances id (stretch core stays)
-    gained core id moves stays exact none rate n =
-        let begun : bucket_of (client_of core id) + levels_taken id (stretch core moves) ≤ (client_of core id).level =
-        omega (arith, none, bucket_level (client_of core id)) in
+    gained core id moves stays exact rate n =
         omega (
           arith,
           exact,
           within core id moves,
-          tokens_grow _ _ _ _ _ _ begun rate n,
+          tokens_grow _ _ _ _ _ _ (bucket_level (client_of core id)) rate n,
         )

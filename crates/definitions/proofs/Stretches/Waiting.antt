@@ -10,8 +10,8 @@ use lib.Dec.{T, eqb, leb}
 use lib.ListN.{length, length-append}
 use borrow.Author.Tests.{eqb-true, eqb-false, ne_eqb, leb-false, ltb-true, ltb-false}
 use Rattle.definitions.specs.declared.Packet.{Packet}
-use Rattle.definitions.specs.Event.{Event, Open, Join, Change, Leave, Load, Arrive, Tick, TakeUp, HandOver}
-use Rattle.definitions.specs.Sizes.{handle_limit, places, shares}
+use Rattle.definitions.specs.Event.{Event, Open, Join, Change, Leave, Load, Arrive, Tick}
+use Rattle.definitions.specs.Sizes.{places, shares}
 use Rattle.definitions.specs.Client.{same_kind, kind_of, is_indifferent}
 use Rattle.definitions.specs.Stock.{Stock, bare, loaded, queued, spent}
 use Rattle.definitions.specs.State.{Side, State, Core, unopened, running, fresh, updated, put, stocked, emptied}
@@ -19,7 +19,6 @@ use Rattle.definitions.specs.Answers.{number, is_accepted}
 use Rattle.definitions.specs.Checks.{Check, accepted, checked, unchanged, open_checks, active_checks, join_checks, change_checks, leave_checks, load_checks, arrive_checks}
 use Rattle.definitions.specs.Calls.{on_open, on_join, side_after_change, on_change, on_leave, on_load, side_after_arrival, on_arrive}
 use Rattle.definitions.specs.Tick.{turn, side_after, slotted, on_tick}
-use Rattle.definitions.specs.TakingUp.{taken, take_up_checks, on_take_up_in, on_hand_over}
 use Rattle.definitions.specs.Core.{step}
 use Rattle.definitions.specs.History.{client_of, stock_of}
 use Rattle.definitions.specs.Sameness.{names, is_setting, is_arrival, is_tick}
@@ -73,8 +72,6 @@ step-told (running s) id (Arrive other p) n indifferently positive refused =
     let failed = checked_first n (arrive_checks s other p) (unchanged (running s)) _ positive (eqb-true _ n (T_true both.1)) in
     failed_told s id p indifferently n (subst (λ (i : ℕ). FailsFirst n (arrive_checks s i p)) own failed)
 step-told (running s) id Tick n indifferently positive refused = absurd refused
-step-told (running s) id (TakeUp lines) n indifferently positive refused = absurd refused
-step-told (running s) id HandOver n indifferently positive refused = absurd refused
 
 module _ (s : State) (id : ℕ) where
   -- A call that passes its checks or keeps the core: as many packets wait as the accepted call leaves, or as many as before.
@@ -122,8 +119,8 @@ pub step_waits : (core : Core) (id : ℕ) (c : Event)
     → is_tick c ≡ false
     → T (not (resets id c && is_accepted (step core c).answer))
     → waits (step core c).core id ≡ one_if (is_offer id c && is_accepted (step core c).answer) (waits core id)
-unfolding step client_of updated stocked emptied side_after_arrival resets is_offer is_open is_setting is_arrival is_tick is_accepted names
-    on_open on_join on_change on_leave on_load on_arrive on_take_up_in on_hand_over
+unfolding step client_of updated stocked emptied side_after_arrival resets is_offer is_open is_setting is_arrival is_tick names
+    on_open on_join on_change on_leave on_load on_arrive
 step_waits unopened id c indifferently still spared = absurd indifferently
 step_waits (running s) id (Open threshold discipline seed) indifferently still spared =
     checked_waits s id true false (open_checks threshold discipline seed) (fresh threshold discipline seed)
@@ -141,9 +138,6 @@ step_waits (running s) id (Load other dummies) indifferently still spared =
 step_waits (running s) id (Arrive other p) indifferently still spared =
     checked_waits s id false (eqb other id) (arrive_checks s other p) _ (λ passed kept. arrive_waits s id other p) spared
 step_waits (running s) id Tick indifferently still spared = true-false refl still
-step_waits (running s) id (TakeUp lines) indifferently still spared =
-    checked_waits s id true false (take_up_checks places handle_limit lines) (taken lines) (λ passed kept. true-false refl kept) spared
-step_waits (running s) id HandOver indifferently still spared = absurd spared
 
 -- a slot adds nothing to what waits of a client
 slot_waits : (s : State) (id : ℕ) → waits (on_tick s).core id ≤ waits (running s) id

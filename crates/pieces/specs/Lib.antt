@@ -1,3 +1,0 @@
--- Where pieces begin, and the room of their buffer.
-pub mod PieceRoom
-pub mod Begun

@@ -1,2 +1,0 @@
-pub mod CutWalk
-pub mod LinesFound
