@@ -1,5 +1,7 @@
 // The table of counts: six numbers for each id, what billing counts of a client since its join. The six of an id lie together, so that
 // an entry touches one part of the table, and an id's sheet is read in one go. A count wraps at 64 bits.
+#![tactic(auto)]
+
 ghost use Rattle.std.specs.Prelude.{◌≡◌, ℕ, ◌<◌, false, slice_index, slice_set};
 ghost use Rattle.definitions.specs.Sizes.{ids};
 ghost use Rattle.definitions.specs.Counts.{Count, column as columnOf, more, anew, entry_of_drop, entry_of_slot, sheet_of};

@@ -9,7 +9,7 @@ use native.Mathlib.Nat.{le_of_eq}
 use lib.Dec.{eqb_refl}
 use borrow.Author.Tests.{eq-eqb, ne_eqb, le-leb, lt-leb, le-ltb}
 use Rattle.definitions.specs.Event.{Open, Join, Change, Leave, Load, Arrive, Tick}
-use Rattle.definitions.specs.declared.Answer.TheVariants.{Accepted}
+use Rattle.definitions.specs.declared.Answer.TheVariants.{Accepted, Refused}
 use Rattle.definitions.specs.Sizes.{pool_limit, first_come}
 use Rattle.definitions.specs.Draw.{draw}
 use Rattle.definitions.specs.Client.{kind_of, retuned, joining, changed, refilled}
@@ -109,6 +109,6 @@ check_facts = record {
     | Leave id ↦ λ n e. when_opened-kept core (λ s. leave_checks s id) _ (refused_differs e)
     | Load id dummies ↦ λ n e. when_opened-kept core (λ s. load_checks s id dummies) _ (refused_differs e)
     | Arrive id packet ↦ λ n e. when_opened-kept core (λ s. arrive_checks s id packet) _ (refused_differs e)
-    | Tick ↦ elim core [ unopened ↦ λ n e. refl | running s ↦ λ n e. cc ]
+    | Tick ↦ elim core as (λ (k : Core). (n : ℕ) → (step k Tick).answer ≡ Refused n → (step k Tick).core ≡ k) [ unopened ↦ λ n e. refl | running s ↦ λ n e. cc ]
   ];
 }

@@ -28,11 +28,11 @@ returns c =
     let second = fourth.before.before.before.before in
     let start = second.before.before.before.before in
     rw (
-      c.put6.ensures,
-      c.before.before.put5.ensures,
-      fourth.put4.ensures,
-      fourth.before.before.put3.ensures,
-      second.put2.ensures,
+      c.put-6.ensures,
+      c.before.before.put-5.ensures,
+      fourth.put-4.ensures,
+      fourth.before.before.put-3.ensures,
+      second.put-2.ensures,
       second.before.before.put.ensures,
     )
     (entered_anew _ _ start.requires)

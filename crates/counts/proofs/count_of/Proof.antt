@@ -4,28 +4,28 @@ use Rattle.definitions.specs.Sizes.{ids}
 use Rattle.counts.proofs.count_of.Statement.{statement}
 use Rattle.counts.proofs.count_of.Tie as tie
 
-mul-result : tie.Need-overflow-mul-result
+overflow_mul-result : tie.Need-overflow_mul-result
 unfolding ids
-mul-result c = search rules
+overflow_mul-result c = search rules
 
-add-result : tie.Need-overflow-add-result
+overflow_add-result : tie.Need-overflow_add-result
 unfolding ids
-add-result c = search rules
+overflow_add-result c = search rules
 
-cast-result : tie.Need-overflow-cast-result
-cast-result c = search rules
+overflow_cast-result : tie.Need-overflow_cast-result
+overflow_cast-result c = search rules
 
-mul-result-2 : tie.Need-overflow-mul-result-2
-mul-result-2 c = search rules
+offset_bounds-counts-id : tie.Need-offset_bounds-counts-id
+offset_bounds-counts-id c = search rules
 
-element-copy-out-result : tie.Need-element-copy-out-result
+bounds-counts-id : tie.Need-bounds-counts-id
 unfolding ids
-element-copy-out-result c = search rules
+bounds-counts-id c = search rules
 
 returns : tie.Need-returns
 unfolding ids
 returns c = search rules
 
-pub count-of-spec : {M : Type 1} → statement M
-count-of-spec =
-    tie.close (tie.spec mul-result add-result cast-result mul-result-2 element-copy-out-result returns)
+pub count_of_spec : {M : Type 1} → statement M
+count_of_spec =
+    tie.close (tie.spec overflow_mul-result overflow_add-result overflow_cast-result offset_bounds-counts-id bounds-counts-id returns)

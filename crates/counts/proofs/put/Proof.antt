@@ -4,27 +4,27 @@ use Rattle.definitions.specs.Sizes.{ids}
 use Rattle.counts.proofs.put.Statement.{statement}
 use Rattle.counts.proofs.put.Tie as tie
 
-mul-counts : tie.Need-overflow-mul-counts
+overflow_mul-counts : tie.Need-overflow_mul-counts
 unfolding ids
-mul-counts c = search rules
+overflow_mul-counts c = search rules
 
-add-counts : tie.Need-overflow-add-counts
+overflow_add-counts : tie.Need-overflow_add-counts
 unfolding ids
-add-counts c = search rules
+overflow_add-counts c = search rules
 
-cast-counts : tie.Need-overflow-cast-counts
-cast-counts c = search rules
+overflow_cast-counts : tie.Need-overflow_cast-counts
+overflow_cast-counts c = search rules
 
-mul-counts-2 : tie.Need-overflow-mul-counts-2
-mul-counts-2 c = search rules
+offset_bounds-counts-id : tie.Need-offset_bounds-counts-id
+offset_bounds-counts-id c = search rules
 
-element-write-counts : tie.Need-element-write-counts
+bounds-counts-id : tie.Need-bounds-counts-id
 unfolding ids
-element-write-counts c = search rules
+bounds-counts-id c = search rules
 
 returns : tie.Need-returns
 unfolding ids
 returns c = search rules
 
 pub put_spec : {M : Type 1} → statement M
-put_spec = tie.close (tie.spec mul-counts add-counts cast-counts mul-counts-2 element-write-counts returns)
+put_spec = tie.close (tie.spec overflow_mul-counts overflow_add-counts overflow_cast-counts offset_bounds-counts-id bounds-counts-id returns)

@@ -91,7 +91,7 @@ rate_more level {left} {more} (d ∷ ds) zero h =
     (λ above e. omega (arith, extra_above level more d above))
     (λ below e. omega (arith, extra_below level more d below))
 rate_more level {left} {more} (d ∷ ds) (suc k) h =
-    rate_more level ds k
+    rate_more level {left = left - extra level left d} {more = more - extra level more d} ds k
     (by_level level left d
     (λ above e. omega (arith, extra_above level more d above))
     (λ below e. omega (arith, extra_below level more d below)))

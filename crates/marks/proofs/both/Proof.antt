@@ -6,5 +6,5 @@ use Rattle.marks.proofs.both.Tie as tie
 returns : tie.Need-returns
 returns c = marked-and c.args.a c.args.b
 
-pub both-spec : {M : Type 1} → statement M
-both-spec = tie.close (tie.spec returns)
+pub both_spec : {M : Type 1} → statement M
+both_spec = tie.close (tie.spec returns)

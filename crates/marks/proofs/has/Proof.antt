@@ -10,15 +10,15 @@ use Rattle.marks.proofs.Bits.{marked_past}
 use Rattle.marks.proofs.has.Statement.{statement}
 use Rattle.marks.proofs.has.Tie as tie
 
-shr-result : tie.Need-overflow-shr-result
-shr-result c = search rules
+overflow_shr-result : tie.Need-overflow_shr-result
+overflow_shr-result c = search rules
 
-returns : tie.Need-returns
+returns-then-id-lt-IDS : tie.Need-returns-then-id-lt-IDS
 unfolding marked
-returns c = ap (λ (x : ℕ). eqb x 1) (and_mask (c.before.args.word / 2 ^ c.before.args.id) 1)
+returns-then-id-lt-IDS c = ap (λ (x : ℕ). eqb x 1) (and_mask (c.before.args.word / 2 ^ c.before.args.id) 1)
 
-returns_2 : tie.Need-returns-2
-returns_2 c = sym (marked_past 64 c.before.args.word c.before.args.id (search rules) (search rules))
+returns-else-id-lt-IDS : tie.Need-returns-else-id-lt-IDS
+returns-else-id-lt-IDS c = sym (marked_past 64 c.before.args.word c.before.args.id (search rules) (search rules))
 
-pub has-spec : {M : Type 1} → statement M
-has-spec = tie.close (tie.spec shr-result returns returns_2)
+pub has_spec : {M : Type 1} → statement M
+has_spec = tie.close (tie.spec overflow_shr-result returns-then-id-lt-IDS returns-else-id-lt-IDS)

@@ -6,16 +6,16 @@ use Rattle.marks.proofs.Bits.{marked-put, marked-put_past}
 use Rattle.marks.proofs.mark.Statement.{statement}
 use Rattle.marks.proofs.mark.Tie as tie
 
-shl-result : tie.Need-overflow-shl-result
-shl-result c = search rules
+overflow_shl-result : tie.Need-overflow_shl-result
+overflow_shl-result c = search rules
 
-returns : tie.Need-returns
+returns-then-id-lt-IDS : tie.Need-returns-then-id-lt-IDS
 unfolding ids
-returns c = marked-put 64 c.before.args.word c.before.args.id (search rules)
+returns-then-id-lt-IDS c = marked-put 64 c.before.args.word c.before.args.id (search rules)
 
-returns_2 : tie.Need-returns-2
+returns-else-id-lt-IDS : tie.Need-returns-else-id-lt-IDS
 unfolding ids
-returns_2 c = marked-put_past 64 c.before.args.word c.before.args.id (search rules)
+returns-else-id-lt-IDS c = marked-put_past 64 c.before.args.word c.before.args.id (search rules)
 
 pub mark_spec : {M : Type 1} → statement M
-mark_spec = tie.close (tie.spec shl-result returns returns_2)
+mark_spec = tie.close (tie.spec overflow_shl-result returns-then-id-lt-IDS returns-else-id-lt-IDS)

@@ -10,17 +10,17 @@ use Rattle.marks.proofs.Bits.{marked-none}
 use Rattle.marks.proofs.rest.Statement.{statement}
 use Rattle.marks.proofs.rest.Tie as tie
 
-sub-result : tie.Need-overflow-sub-result
-sub-result c = search rules
+overflow_sub-result : tie.Need-overflow_sub-result
+overflow_sub-result c = search rules
 
-returns : tie.Need-returns
-returns c = (λ j. rw (c.if1.true, marked-none), search rules)
+returns-then-word-eq0 : tie.Need-returns-then-word-eq0
+returns-then-word-eq0 c = (λ j. rw (c.if-word-eq0.true, marked-none), search rules)
 
-returns_2 : tie.Need-returns-2
+returns-else-word-eq0 : tie.Need-returns-else-word-eq0
 unfolding ids
-returns_2 c =
+returns-else-word-eq0 c =
     let w = c.before.args.word in
     (marked_rest 64 w (search rules) (search rules), λ p. omega (arith, and_le_r w (w - 1)))
 
-pub rest-spec : {M : Type 1} → statement M
-rest-spec = tie.close (tie.spec sub-result returns returns_2)
+pub rest_spec : {M : Type 1} → statement M
+rest_spec = tie.close (tie.spec overflow_sub-result returns-then-word-eq0 returns-else-word-eq0)

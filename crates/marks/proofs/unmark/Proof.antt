@@ -5,14 +5,14 @@ use Rattle.marks.proofs.Bits.{marked-taken, marked-taken_past}
 use Rattle.marks.proofs.unmark.Statement.{statement}
 use Rattle.marks.proofs.unmark.Tie as tie
 
-shl-result : tie.Need-overflow-shl-result
-shl-result c = search rules
+overflow_shl-result : tie.Need-overflow_shl-result
+overflow_shl-result c = search rules
 
-returns : tie.Need-returns
-returns c = marked-taken 64 c.before.args.word c.before.args.id (search rules) (search rules)
+returns-then-id-lt-IDS : tie.Need-returns-then-id-lt-IDS
+returns-then-id-lt-IDS c = marked-taken 64 c.before.args.word c.before.args.id (search rules) (search rules)
 
-returns_2 : tie.Need-returns-2
-returns_2 c = marked-taken_past 64 c.before.args.word c.before.args.id (search rules) (search rules)
+returns-else-id-lt-IDS : tie.Need-returns-else-id-lt-IDS
+returns-else-id-lt-IDS c = marked-taken_past 64 c.before.args.word c.before.args.id (search rules) (search rules)
 
-pub unmark-spec : {M : Type 1} → statement M
-unmark-spec = tie.close (tie.spec shl-result returns returns_2)
+pub unmark_spec : {M : Type 1} → statement M
+unmark_spec = tie.close (tie.spec overflow_shl-result returns-then-id-lt-IDS returns-else-id-lt-IDS)

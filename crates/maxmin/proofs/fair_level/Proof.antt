@@ -10,78 +10,78 @@ use Rattle.definitions.proofs.Fairness.Level.{cut_sum-zero, level_is_lem}
 use Rattle.maxmin.proofs.fair_level.Statement.{statement}
 use Rattle.maxmin.proofs.fair_level.Tie as tie
 
-abbrev invariant-loop : tie.invariant-loop
-invariant-loop threshold demands level₀ above₀ level above =
+abbrev invariant-loop-above : tie.invariant-loop-above
+invariant-loop-above threshold demands level₀ above₀ level above =
     (cut_sum level demands ≤ threshold)
     × (level < above)
     × (above ≤ shares + 1)
     × (above ≤ shares → threshold < cut_sum above demands)
 
-abbrev decreases-loop : tie.decreases-loop
-decreases-loop threshold demands level₀ above₀ level above = above - level
+abbrev decreases-loop-above : tie.decreases-loop-above
+decreases-loop-above threshold demands level₀ above₀ level above = above - level
 
-add-above : tie.Need-overflow-add-above invariant-loop decreases-loop
-add-above c = search rules
+overflow_add-above : tie.Need-overflow_add-above invariant-loop-above decreases-loop-above
+overflow_add-above c = search rules
 
-loop-holds : tie.Need-loop-init invariant-loop decreases-loop
+loop-above-init : tie.Need-loop-above-init invariant-loop-above decreases-loop-above
 unfolding shares
-loop-holds c =
+loop-above-init c =
     (omega (arith, cut_sum-zero c.before.args.demands.now), omega arith, omega arith, λ low. absurd (omega arith))
 
-sub-loop : tie.Need-overflow-sub-loop invariant-loop decreases-loop
-sub-loop c = search rules
+overflow_sub-above : tie.Need-overflow_sub-above invariant-loop-above decreases-loop-above
+overflow_sub-above c = search rules
 
-sub-middle : tie.Need-overflow-sub-middle invariant-loop decreases-loop
-sub-middle c = search rules
+overflow_sub-middle : tie.Need-overflow_sub-middle invariant-loop-above decreases-loop-above
+overflow_sub-middle c = search rules
 
 -- a turn's middle lies between the two
-middle : (c : tie.In-loop invariant-loop decreases-loop)
-    → let level = c.before.loop.level in let above = c.before.loop.above in
+middle : (c : tie.In-loop-above invariant-loop-above decreases-loop-above)
+    → let level = c.before.loop-above.level in let above = c.before.loop-above.above in
     (level < level + (above - level) / 2) × (level + (above - level) / 2 < above)
-middle c = (omega (arith, c.loop-test.true), omega (arith, c.loop-test.true))
+middle c = (omega (arith, c.loop-above-test.true), omega (arith, c.loop-above-test.true))
 
-add-middle : tie.Need-overflow-add-middle invariant-loop decreases-loop
+overflow_add-middle : tie.Need-overflow_add-middle invariant-loop-above decreases-loop-above
 unfolding shares
-add-middle c = record { fits = omega (arith, middle c, c.before.loop.invariant) }
+overflow_add-middle c = record { fits = omega (arith, middle c, c.before.loop-above.invariant) }
 
-cut-sum-requires : tie.Need-cut-sum-requires invariant-loop decreases-loop
-cut-sum-requires c κs = (c.before.before.before.requires, omega (arith, middle c, c.before.loop.invariant))
+cut_sum-requires : tie.Need-cut_sum-requires invariant-loop-above decreases-loop-above
+cut_sum-requires c κs = (c.before.before.before.requires, omega (arith, middle c, c.before.loop-above.invariant))
 
-loop-less : tie.Need-loop-smaller invariant-loop decreases-loop
-loop-less c = omega (arith, middle c.before.before)
+loop-above-smaller-then-cut_sum-threshold : tie.Need-loop-above-smaller-then-cut_sum-threshold invariant-loop-above decreases-loop-above
+loop-above-smaller-then-cut_sum-threshold c = omega (arith, middle c.before.before)
 
-loop-again : tie.Need-loop-preserved invariant-loop decreases-loop
-loop-again c =
+loop-above-preserved-then-cut_sum-threshold : tie.Need-loop-above-preserved-then-cut_sum-threshold invariant-loop-above decreases-loop-above
+loop-above-preserved-then-cut_sum-threshold c =
     let turn = c.before.before in
-    let inv = turn.before.loop.invariant in
-    (omega (arith, c.if1.true, c.before.cut_sum.ensures), (middle turn).1, inv.2, inv.3)
+    let inv = turn.before.loop-above.invariant in
+    (omega (arith, c.if-cut_sum-threshold.true, c.before.cut_sum.ensures), (middle turn).1, inv.2, inv.3)
 
-loop-less-2 : tie.Need-loop-smaller-2 invariant-loop decreases-loop
-loop-less-2 c = omega (arith, middle c.before.before)
+loop-above-smaller : tie.Need-loop-above-smaller invariant-loop-above decreases-loop-above
+loop-above-smaller c = omega (arith, middle c.before.before)
 
-loop-again-2 : tie.Need-loop-preserved-2 invariant-loop decreases-loop
-loop-again-2 c =
+loop-above-preserved : tie.Need-loop-above-preserved invariant-loop-above decreases-loop-above
+loop-above-preserved c =
     let turn = c.before.before in
-    let inv = turn.before.loop.invariant in (
+    let inv = turn.before.loop-above.invariant in (
       inv.0,
       (middle turn).0,
       omega (arith, middle turn, inv.2),
-      λ low. omega (arith, c.if1.false, c.before.cut_sum.ensures),
+      λ low. omega (arith, c.if-cut_sum-threshold.false, c.before.cut_sum.ensures),
     )
 
-returns : tie.Need-returns invariant-loop decreases-loop
+returns : tie.Need-returns invariant-loop-above decreases-loop-above
 returns c =
     let args = c.before.before.before.args in
-    let loop = c.before.loop in
-    let next : loop.above ≡ suc loop.level = omega (arith, c.loop-test.false, loop.invariant.1) in
+    let loop = c.before.loop-above in
+    let next : loop.above ≡ suc loop.level = omega (arith, c.loop-above-test.false, loop.invariant.1) in
     sym
     (level_is_lem args.threshold args.demands.now loop.level
     (omega (arith, loop.invariant.1, loop.invariant.2))
     loop.invariant.0
     (λ low. rw (sym next) (loop.invariant.3 (omega arith))))
 
-pub fair-level-spec : {M : Type 1} → statement M
-fair-level-spec =
+pub fair_level_spec : {M : Type 1} → statement M
+fair_level_spec =
     tie.close
-    (tie.spec invariant-loop decreases-loop add-above loop-holds sub-loop sub-middle add-middle cut-sum-requires loop-less loop-again
-    loop-less-2 loop-again-2 returns)
+    (tie.spec invariant-loop-above decreases-loop-above overflow_add-above loop-above-init overflow_sub-above overflow_sub-middle overflow_add-middle cut_sum-requires loop-above-smaller-then-cut_sum-threshold loop-above-preserved-then-cut_sum-threshold
+    loop-above-smaller loop-above-preserved returns)

@@ -7,45 +7,45 @@ use Rattle.definitions.specs.FairRates.{acceptable}
 use Rattle.maxmin.proofs.is_acceptable.Statement.{statement}
 use Rattle.maxmin.proofs.is_acceptable.Tie as tie
 
-is-share-requires : tie.Need-is-share-requires
-is-share-requires c κs = search rules
+is_share-requires : tie.Need-is_share-requires
+is_share-requires c κs = search rules
 
-returns : tie.Need-returns
+returns-then-not-is_share : tie.Need-returns-then-not-is_share
 unfolding acceptable
-returns c = rw (sym c.before.is_share.ensures ∙ not-true _ c.if1.true)
+returns-then-not-is_share c = rw (sym c.before.is_share.ensures ∙ not-true _ c.if-not-is_share.true-raw)
 
-cast-if2 : tie.Need-overflow-cast-if2
-cast-if2 c = search rules
+overflow_cast-t-7 : tie.Need-overflow_cast-t-7
+overflow_cast-t-7 c = search rules
 
-returns_2 : tie.Need-returns-2
+returns-then-demands : tie.Need-returns-then-demands
 unfolding acceptable ids
-returns_2 c =
-    rw (sym c.before.before.is_share.ensures ∙ not-false _ c.before.if1.false, lt-leb _ _ c.if2.true)
+returns-then-demands c =
+    rw (sym c.before.before.is_share.ensures ∙ not-false _ c.before.if-not-is_share.false-raw, lt-leb _ _ c.if-demands.true)
 
-returns-3 : tie.Need-returns-3
+returns-then-demands-threshold : tie.Need-returns-then-demands-threshold
 unfolding acceptable ids
-returns-3 c =
+returns-then-demands-threshold c =
     let few = c.before in
     rw (
-      sym few.before.before.is_share.ensures ∙ not-false _ few.before.if1.false,
-      le-leb _ _ few.if2.false,
-      lt-leb _ _ c.if3.true,
+      sym few.before.before.is_share.ensures ∙ not-false _ few.before.if-not-is_share.false-raw,
+      le-leb _ _ few.if-demands.false,
+      lt-leb _ _ c.if-demands-threshold.true,
     )
 
-is-listed-requires : tie.Need-is-listed-requires
-is-listed-requires c κs = search rules
+is_listed-requires : tie.Need-is_listed-requires
+is_listed-requires c κs = search rules
 
-returns-4 : tie.Need-returns-4
+returns : tie.Need-returns
 unfolding acceptable ids
-returns-4 c =
+returns c =
     let few = c.before.before in
     rw (
-      sym few.before.before.is_share.ensures ∙ not-false _ few.before.if1.false,
-      le-leb _ _ few.if2.false,
-      le-leb _ _ c.before.if3.false,
+      sym few.before.before.is_share.ensures ∙ not-false _ few.before.if-not-is_share.false-raw,
+      le-leb _ _ few.if-demands.false,
+      le-leb _ _ c.before.if-demands-threshold.false,
     )
-    c.is-listed.ensures
+    c.is_listed.ensures
 
-pub is-acceptable-spec : {M : Type 1} → statement M
-is-acceptable-spec =
-    tie.close (tie.spec is-share-requires returns cast-if2 returns_2 returns-3 is-listed-requires returns-4)
+pub is_acceptable_spec : {M : Type 1} → statement M
+is_acceptable_spec =
+    tie.close (tie.spec is_share-requires returns-then-not-is_share overflow_cast-t-7 returns-then-demands returns-then-demands-threshold is_listed-requires returns)

@@ -7,22 +7,22 @@ use Rattle.definitions.specs.FairRates.{entry_fits}
 use Rattle.maxmin.proofs.is_entry.Statement.{statement}
 use Rattle.maxmin.proofs.is_entry.Tie as tie
 
-is-share-requires : tie.Need-is-share-requires
-is-share-requires c κs = search rules
+is_share-requires : tie.Need-is_share-requires
+is_share-requires c κs = search rules
+
+returns-then-not-is_share : tie.Need-returns-then-not-is_share
+unfolding entry_fits
+returns-then-not-is_share c = rw (sym c.before.is_share.ensures ∙ not-true _ c.if-not-is_share.true-raw)
+
+returns-then-id-lowest : tie.Need-returns-then-id-lowest
+unfolding entry_fits
+returns-then-id-lowest c =
+    rw (sym c.before.before.is_share.ensures ∙ not-false _ c.before.if-not-is_share.false-raw, lt-leb _ _ c.if-id-lowest.true)
 
 returns : tie.Need-returns
-unfolding entry_fits
-returns c = rw (sym c.before.is_share.ensures ∙ not-true _ c.if1.true)
-
-returns_2 : tie.Need-returns-2
-unfolding entry_fits
-returns_2 c =
-    rw (sym c.before.before.is_share.ensures ∙ not-false _ c.before.if1.false, lt-leb _ _ c.if2.true)
-
-returns-3 : tie.Need-returns-3
 unfolding entry_fits ids
-returns-3 c =
-    rw (sym c.before.before.is_share.ensures ∙ not-false _ c.before.if1.false, le-leb _ _ c.if2.false)
+returns c =
+    rw (sym c.before.before.is_share.ensures ∙ not-false _ c.before.if-not-is_share.false-raw, le-leb _ _ c.if-id-lowest.false)
 
-pub is-entry-spec : {M : Type 1} → statement M
-is-entry-spec = tie.close (tie.spec is-share-requires returns returns_2 returns-3)
+pub is_entry_spec : {M : Type 1} → statement M
+is_entry_spec = tie.close (tie.spec is_share-requires returns-then-not-is_share returns-then-id-lowest returns)

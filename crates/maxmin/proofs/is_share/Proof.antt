@@ -6,13 +6,13 @@ use Rattle.definitions.specs.Checks.{within}
 use Rattle.maxmin.proofs.is_share.Statement.{statement}
 use Rattle.maxmin.proofs.is_share.Tie as tie
 
-returns : tie.Need-returns
+returns-then-n-eq0 : tie.Need-returns-then-n-eq0
 unfolding within
-returns c = rw (lt-leb 1 c.before.args.n (omega arith))
+returns-then-n-eq0 c = rw (lt-leb 1 c.before.args.n (omega arith))
 
-returns_2 : tie.Need-returns-2
+returns : tie.Need-returns
 unfolding within shares
-returns_2 c = rw (le-leb 1 c.before.args.n (omega arith))
+returns c = rw (le-leb 1 c.before.args.n (omega arith))
 
-pub is-share-spec : {M : Type 1} → statement M
-is-share-spec = tie.close (tie.spec returns returns_2)
+pub is_share_spec : {M : Type 1} → statement M
+is_share_spec = tie.close (tie.spec returns-then-n-eq0 returns)

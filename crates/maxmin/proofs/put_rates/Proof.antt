@@ -13,34 +13,34 @@ use Rattle.maxmin.proofs.DemandWalk.{rates-next, rates-none}
 use Rattle.maxmin.proofs.put_rates.Statement.{statement}
 use Rattle.maxmin.proofs.put_rates.Tie as tie
 
-abbrev invariant-loop : tie.invariant-loop
-invariant-loop level left demands rates₀ rest₀ i₀ rates rest i =
+abbrev invariant-loop-i : tie.invariant-loop-i
+invariant-loop-i level left demands rates₀ rest₀ i₀ rates rest i =
     (sets rates i (rates_at level rest (drop i demands)) ≡ sets rates₀ 0 (rates_at level left demands))
     × (length rates ≡ length rates₀)
     × (i ≤ length demands)
 
-abbrev decreases-loop : tie.decreases-loop
-decreases-loop level left demands rates₀ rest₀ i₀ rates rest i = length demands - i
+abbrev decreases-loop-i : tie.decreases-loop-i
+decreases-loop-i level left demands rates₀ rest₀ i₀ rates rest i = length demands - i
 
-loop-holds : tie.Need-loop-init invariant-loop decreases-loop
-loop-holds c = (refl, refl, zero-le)
+loop-i-init : tie.Need-loop-i-init invariant-loop-i decreases-loop-i
+loop-i-init c = (refl, refl, zero-le)
 
-mul-extra : tie.Need-overflow-mul-extra invariant-loop decreases-loop
-mul-extra c = search rules
+offset_bounds-demands-i : tie.Need-offset_bounds-demands-i invariant-loop-i decreases-loop-i
+offset_bounds-demands-i c = search rules
 
-shared-slice-read-extra : tie.Need-shared-slice-read-extra invariant-loop decreases-loop
-shared-slice-read-extra c = search rules
+bounds-demands-i : tie.Need-bounds-demands-i invariant-loop-i decreases-loop-i
+bounds-demands-i c = search rules
 
-extra-requires : tie.Need-extra-requires invariant-loop decreases-loop
-extra-requires c κs = search rules
+extra-more-requires : tie.Need-extra-more-requires invariant-loop-i decreases-loop-i
+extra-more-requires c κs = search rules
 
-mul-cut : tie.Need-overflow-mul-cut invariant-loop decreases-loop
-mul-cut c = search rules
+offset_bounds-demands-i-in-loop-i : tie.Need-offset_bounds-demands-i-in-loop-i invariant-loop-i decreases-loop-i
+offset_bounds-demands-i-in-loop-i c = search rules
 
-shared-slice-read-cut : tie.Need-shared-slice-read-cut invariant-loop decreases-loop
-shared-slice-read-cut c = search rules
+bounds-demands-i-in-loop-i : tie.Need-bounds-demands-i-in-loop-i invariant-loop-i decreases-loop-i
+bounds-demands-i-in-loop-i c = search rules
 
-cut-requires : tie.Need-cut-requires invariant-loop decreases-loop
+cut-requires : tie.Need-cut-requires invariant-loop-i decreases-loop-i
 cut-requires c κs = search rules
 
 -- what a share of what is left comes to
@@ -49,68 +49,68 @@ unfolding extra
 extra_most level left demand =
     cond_both (λ n. (n ≤ 1) × (n ≤ left)) (ltb level demand) (omega arith, omega arith) (omega arith, omega arith)
 
-add-rates : tie.Need-overflow-add-rates invariant-loop decreases-loop
+overflow_add-rates : tie.Need-overflow_add-rates invariant-loop-i decreases-loop-i
 unfolding shares
-add-rates c =
+overflow_add-rates c =
     let turn = c.before.before.before.before in
     let args = turn.before.before.before.before.args in
     record {
       fits = omega (
         arith,
         c.cut.ensures,
-        c.before.before.extra.ensures,
-        extra_most args.level turn.before.loop.rest (get_or args.demands.now turn.before.loop.i 0),
+        c.before.before.extra-more.ensures,
+        extra_most args.level turn.before.loop-i.rest (get_or args.demands.now turn.before.loop-i.i 0),
         turn.before.before.before.before.requires,
       );
     }
 
-mul-rates : tie.Need-overflow-mul-rates invariant-loop decreases-loop
-mul-rates c = search rules
+offset_bounds-rates-i : tie.Need-offset_bounds-rates-i invariant-loop-i decreases-loop-i
+offset_bounds-rates-i c = search rules
 
-slice-write-rates : tie.Need-slice-write-rates invariant-loop decreases-loop
-slice-write-rates c =
+bounds-rates-i : tie.Need-bounds-rates-i invariant-loop-i decreases-loop-i
+bounds-rates-i c =
     let turn = c.before.before.before.before in
-    omega (arith, turn.before.loop.invariant.1, turn.loop-test.true, turn.before.before.before.before.requires)
+    omega (arith, turn.before.loop-i.invariant.1, turn.loop-i-test.true, turn.before.before.before.before.requires)
 
-sub-rest : tie.Need-overflow-sub-rest invariant-loop decreases-loop
-sub-rest c =
+overflow_sub-rest : tie.Need-overflow_sub-rest invariant-loop-i decreases-loop-i
+overflow_sub-rest c =
     let turn = c.before.before.before.before in
     let args = turn.before.before.before.before.args in
     omega (
       arith,
-      c.before.before.extra.ensures,
-      extra_most args.level turn.before.loop.rest (get_or args.demands.now turn.before.loop.i 0),
+      c.before.before.extra-more.ensures,
+      extra_most args.level turn.before.loop-i.rest (get_or args.demands.now turn.before.loop-i.i 0),
     )
 
-add-i : tie.Need-overflow-add-i invariant-loop decreases-loop
-add-i c = search rules
+overflow_add-i : tie.Need-overflow_add-i invariant-loop-i decreases-loop-i
+overflow_add-i c = search rules
 
-loop-less : tie.Need-loop-smaller invariant-loop decreases-loop
-loop-less c = search rules
+loop-i-smaller : tie.Need-loop-i-smaller invariant-loop-i decreases-loop-i
+loop-i-smaller c = search rules
 
-loop-again : tie.Need-loop-preserved invariant-loop decreases-loop
-loop-again c =
+loop-i-preserved : tie.Need-loop-i-preserved invariant-loop-i decreases-loop-i
+loop-i-preserved c =
     let turn = c.before.before.before.before in
     let args = turn.before.before.before.before.args in
-    let loop = turn.before.loop in (
-      rw (c.cut.ensures, c.before.before.extra.ensures)
-          (sym (rates-next args.demands.now loop.i turn.loop-test.true args.level loop.rest loop.rates)
+    let loop = turn.before.loop-i in (
+      rw (c.cut.ensures, c.before.before.extra-more.ensures)
+          (sym (rates-next args.demands.now loop.i turn.loop-i-test.true args.level loop.rest loop.rates)
           ∙ loop.invariant.0),
       simp length-set loop.invariant.1,
-      omega (arith, turn.loop-test.true),
+      omega (arith, turn.loop-i-test.true),
     )
 
-same_length : tie.Need-same-length invariant-loop decreases-loop
-same_length c = c.before.loop.invariant.1
+shape_of-rates : tie.Need-shape_of-rates invariant-loop-i decreases-loop-i
+shape_of-rates c = c.before.loop-i.invariant.1
 
-returns : tie.Need-returns invariant-loop decreases-loop
+returns : tie.Need-returns invariant-loop-i decreases-loop-i
 returns c =
     let args = c.before.before.before.before.args in
-    let loop = c.before.loop in
-    sym (rates-none args.demands.now loop.i args.level loop.rest loop.rates c.loop-test.false) ∙ loop.invariant.0
+    let loop = c.before.loop-i in
+    sym (rates-none args.demands.now loop.i args.level loop.rest loop.rates c.loop-i-test.false) ∙ loop.invariant.0
 
-pub put-rates-spec : {M : Type 1} → statement M
-put-rates-spec =
+pub put_rates_spec : {M : Type 1} → statement M
+put_rates_spec =
     tie.close
-    (tie.spec invariant-loop decreases-loop loop-holds mul-extra shared-slice-read-extra extra-requires mul-cut shared-slice-read-cut
-    cut-requires add-rates mul-rates slice-write-rates sub-rest add-i loop-less loop-again same_length returns)
+    (tie.spec invariant-loop-i decreases-loop-i loop-i-init offset_bounds-demands-i bounds-demands-i extra-more-requires offset_bounds-demands-i-in-loop-i bounds-demands-i-in-loop-i
+    cut-requires overflow_add-rates offset_bounds-rates-i bounds-rates-i overflow_sub-rest overflow_add-i loop-i-smaller loop-i-preserved shape_of-rates returns)

@@ -7,12 +7,12 @@ use Rattle.order.proofs.OrderedLinks.{ordered_front}
 use Rattle.order.proofs.front.Statement.{statement}
 use Rattle.order.proofs.front.Tie as tie
 
-element-copy-out-result : tie.Need-element-copy-out-result
-element-copy-out-result c = search rules
+bounds-links-8192 : tie.Need-bounds-links-8192
+bounds-links-8192 c = search rules
 
 returns : tie.Need-returns
 unfolding next_of sentinel ids places
 returns c = (c.before.requires.nodes _, ordered_front _)
 
-pub front-spec : {M : Type 1} → statement M
-front-spec = tie.close (tie.spec element-copy-out-result returns)
+pub front_spec : {M : Type 1} → statement M
+front_spec = tie.close (tie.spec bounds-links-8192 returns)

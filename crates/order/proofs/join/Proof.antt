@@ -8,28 +8,28 @@ use Rattle.order.specs.Order.{sentinel, joined}
 use Rattle.order.proofs.join.Statement.{statement}
 use Rattle.order.proofs.join.Tie as tie
 
-mul-links : tie.Need-overflow-mul-links
-mul-links c = search rules
+offset_bounds-links-a : tie.Need-offset_bounds-links-a
+offset_bounds-links-a c = search rules
 
-element-write-links : tie.Need-element-write-links
+bounds-links-a : tie.Need-bounds-links-a
 unfolding sentinel ids places
-element-write-links c = omega arith
+bounds-links-a c = omega arith
 
-add-links : tie.Need-overflow-add-links
-add-links c = search rules
+overflow_add-links : tie.Need-overflow_add-links
+overflow_add-links c = search rules
 
-mul-links-2 : tie.Need-overflow-mul-links-2
-mul-links-2 c = search rules
+offset_bounds-links-b : tie.Need-offset_bounds-links-b
+offset_bounds-links-b c = search rules
 
-element-write-links-2 : tie.Need-element-write-links-2
+bounds-links-b : tie.Need-bounds-links-b
 unfolding sentinel ids places
-element-write-links-2 c = omega arith
+bounds-links-b c = omega arith
 
 returns : tie.Need-returns
 unfolding joined sentinel ids places
 returns c = refl
 
-pub join-spec : {M : Type 1} → statement M
-join-spec =
+pub join_spec : {M : Type 1} → statement M
+join_spec =
     tie.close
-    (tie.spec mul-links element-write-links add-links mul-links-2 element-write-links-2 returns)
+    (tie.spec offset_bounds-links-a bounds-links-a overflow_add-links offset_bounds-links-b bounds-links-b returns)

@@ -8,8 +8,8 @@ use Rattle.order.proofs.PushAndUnlink.{prev_node, pushed_sound, pushed_ordered}
 use Rattle.order.proofs.push.Statement.{statement}
 use Rattle.order.proofs.push.Tie as tie
 
-element-copy-out-last : tie.Need-element-copy-out-last
-element-copy-out-last c = search rules
+bounds-links-16385 : tie.Need-bounds-links-16385
+bounds-links-16385 c = search rules
 
 join-requires : tie.Need-join-requires
 unfolding prev_of sentinel ids places
@@ -22,10 +22,10 @@ join-requires-2 c κs = omega (arith, prev_node _ c.before.before.before.before.
 returns : tie.Need-returns
 unfolding prev_of sentinel ids places
 returns c =
-    rw (c.join2.ensures, c.before.before.join.ensures) (
+    rw (c.join-2.ensures, c.before.before.join.ensures) (
       pushed_sound _ c.before.before.before.before.before.requires _,
       pushed_ordered _ c.before.before.before.before.before.requires _,
     )
 
 pub push_spec : {M : Type 1} → statement M
-push_spec = tie.close (tie.spec element-copy-out-last join-requires join-requires-2 returns)
+push_spec = tie.close (tie.spec bounds-links-16385 join-requires join-requires-2 returns)

@@ -9,23 +9,23 @@ use Rattle.order.proofs.PushAndUnlink.{prev_node, next_node, unlinked_sound, unl
 use Rattle.order.proofs.unlink.Statement.{statement}
 use Rattle.order.proofs.unlink.Tie as tie
 
-cast-at : tie.Need-overflow-cast-at
-cast-at c = search rules
+overflow_cast-at : tie.Need-overflow_cast-at
+overflow_cast-at c = search rules
 
-add-prev : tie.Need-overflow-add-prev
-add-prev c = search rules
+overflow_add-prev : tie.Need-overflow_add-prev
+overflow_add-prev c = search rules
 
-mul-prev : tie.Need-overflow-mul-prev
-mul-prev c = search rules
+offset_bounds-links-at : tie.Need-offset_bounds-links-at
+offset_bounds-links-at c = search rules
 
-element-copy-out-prev : tie.Need-element-copy-out-prev
-element-copy-out-prev c = search rules
+bounds-links-at : tie.Need-bounds-links-at
+bounds-links-at c = search rules
 
-mul_next : tie.Need-overflow-mul-next
-mul_next c = search rules
+offset_bounds-links-at-2 : tie.Need-offset_bounds-links-at-2
+offset_bounds-links-at-2 c = search rules
 
-element-copy-out-next : tie.Need-element-copy-out-next
-element-copy-out-next c = search rules
+bounds-links-at-2 : tie.Need-bounds-links-at-2
+bounds-links-at-2 c = search rules
 
 join-requires : tie.Need-join-requires
 unfolding next_of prev_of sentinel ids places
@@ -41,15 +41,15 @@ returns c =
       unlinked_ordered _ c.before.before.before.before.requires _,
     )
 
-pub unlink-spec : {M : Type 1} → statement M
-unlink-spec =
+pub unlink_spec : {M : Type 1} → statement M
+unlink_spec =
     tie.close
     (tie.spec
-    cast-at
-    add-prev
-    mul-prev
-    element-copy-out-prev
-    mul_next
-    element-copy-out-next
+    overflow_cast-at
+    overflow_add-prev
+    offset_bounds-links-at
+    bounds-links-at
+    offset_bounds-links-at-2
+    bounds-links-at-2
     join-requires
     returns)

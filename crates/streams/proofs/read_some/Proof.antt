@@ -6,67 +6,67 @@ use borrow.Author.Rules.{rules}
 use Rattle.streams.proofs.read_some.Statement.{statement}
 use Rattle.streams.proofs.read_some.Tie as tie
 
-abbrev invariant-loop : tie.invariant-loop
-invariant-loop room₀ tries₀ room tries = length room ≡ length room₀
+abbrev invariant-loop-tries : tie.invariant-loop-tries
+invariant-loop-tries room₀ tries₀ room tries = length room ≡ length room₀
 
-abbrev decreases-loop : tie.decreases-loop
-decreases-loop room₀ tries₀ room tries = tries
+abbrev decreases-loop-tries : tie.decreases-loop-tries
+decreases-loop-tries room₀ tries₀ room tries = tries
 
-loop-holds : tie.Need-loop-init invariant-loop decreases-loop
-loop-holds c = search rules
+loop-tries-init : tie.Need-loop-tries-init invariant-loop-tries decreases-loop-tries
+loop-tries-init c = search rules
 
-read-requires : tie.Need-read-requires invariant-loop decreases-loop
-read-requires c κs = search rules
+read-got-requires : tie.Need-read-got-requires invariant-loop-tries decreases-loop-tries
+read-got-requires c κs = search rules
 
-count-requires : tie.Need-count-requires invariant-loop decreases-loop
+count-requires : tie.Need-count-requires invariant-loop-tries decreases-loop-tries
 count-requires c κs = search rules
 
-same_length : tie.Need-same-length invariant-loop decreases-loop
-same_length c = search rules
+shape_of-room-then-got-ge0 : tie.Need-shape_of-room-then-got-ge0 invariant-loop-tries decreases-loop-tries
+shape_of-room-then-got-ge0 c = search rules
 
-returns : tie.Need-returns invariant-loop decreases-loop
-returns c = search rules
+returns-then-got-ge0 : tie.Need-returns-then-got-ge0 invariant-loop-tries decreases-loop-tries
+returns-then-got-ge0 c = search rules
 
-errno-requires : tie.Need-errno-requires invariant-loop decreases-loop
+errno-requires : tie.Need-errno-requires invariant-loop-tries decreases-loop-tries
 errno-requires c κs = search rules
 
-same_length_2 : tie.Need-same-length-2 invariant-loop decreases-loop
-same_length_2 c = search rules
+shape_of-room-then-errno-ne-EINTR : tie.Need-shape_of-room-then-errno-ne-EINTR invariant-loop-tries decreases-loop-tries
+shape_of-room-then-errno-ne-EINTR c = search rules
 
-returns_2 : tie.Need-returns-2 invariant-loop decreases-loop
-returns_2 c = search rules
+returns-then-errno-ne-EINTR : tie.Need-returns-then-errno-ne-EINTR invariant-loop-tries decreases-loop-tries
+returns-then-errno-ne-EINTR c = search rules
 
-sub-tries : tie.Need-overflow-sub-tries invariant-loop decreases-loop
-sub-tries c = search rules
+overflow_sub-tries : tie.Need-overflow_sub-tries invariant-loop-tries decreases-loop-tries
+overflow_sub-tries c = search rules
 
-loop-less : tie.Need-loop-smaller invariant-loop decreases-loop
-loop-less c = search rules
+loop-tries-smaller : tie.Need-loop-tries-smaller invariant-loop-tries decreases-loop-tries
+loop-tries-smaller c = search rules
 
-loop-again : tie.Need-loop-preserved invariant-loop decreases-loop
-loop-again c = search rules
+loop-tries-preserved : tie.Need-loop-tries-preserved invariant-loop-tries decreases-loop-tries
+loop-tries-preserved c = search rules
 
-same-length-3 : tie.Need-same-length-3 invariant-loop decreases-loop
-same-length-3 c = search rules
+shape_of-room : tie.Need-shape_of-room invariant-loop-tries decreases-loop-tries
+shape_of-room c = search rules
 
-returns-3 : tie.Need-returns-3 invariant-loop decreases-loop
-returns-3 c = search rules
+returns : tie.Need-returns invariant-loop-tries decreases-loop-tries
+returns c = search rules
 
-pub read-some-spec : {M : Type 1} → statement M
-read-some-spec =
+pub read_some_spec : {M : Type 1} → statement M
+read_some_spec =
     tie.close
     (tie.spec
-    invariant-loop
-    decreases-loop
-    loop-holds
-    read-requires
+    invariant-loop-tries
+    decreases-loop-tries
+    loop-tries-init
+    read-got-requires
     count-requires
-    same_length
-    returns
+    shape_of-room-then-got-ge0
+    returns-then-got-ge0
     errno-requires
-    same_length_2
-    returns_2
-    sub-tries
-    loop-less
-    loop-again
-    same-length-3
-    returns-3)
+    shape_of-room-then-errno-ne-EINTR
+    returns-then-errno-ne-EINTR
+    overflow_sub-tries
+    loop-tries-smaller
+    loop-tries-preserved
+    shape_of-room
+    returns)

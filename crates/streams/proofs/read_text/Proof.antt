@@ -9,83 +9,83 @@ use Rattle.io.proofs.Counting.{prefix_len_of_le}
 use Rattle.streams.proofs.read_text.Statement.{statement}
 use Rattle.streams.proofs.read_text.Tie as tie
 
-abbrev invariant-loop : tie.invariant-loop
-invariant-loop room₀ length₀ room length = (long room ≡ long room₀) × (length ≤ long room)
+abbrev invariant-loop-length : tie.invariant-loop-length
+invariant-loop-length room₀ length₀ room length = (long room ≡ long room₀) × (length ≤ long room)
 
-abbrev decreases-loop : tie.decreases-loop
-decreases-loop room₀ length₀ room length = long room - length
+abbrev decreases-loop-length : tie.decreases-loop-length
+decreases-loop-length room₀ length₀ room length = long room - length
 
-loop-holds : tie.Need-loop-init invariant-loop decreases-loop
-loop-holds c = search rules
+loop-length-init : tie.Need-loop-length-init invariant-loop-length decreases-loop-length
+loop-length-init c = search rules
 
-sub-read-some : tie.Need-overflow-sub-read-some invariant-loop decreases-loop
-sub-read-some c = search rules
+slice_bounds-read_some-count : tie.Need-slice_bounds-read_some-count invariant-loop-length decreases-loop-length
+slice_bounds-read_some-count c = search rules
 
-part-read-some-start : tie.Need-slice-bounds-read-some-start invariant-loop decreases-loop
+part-read-some-start : tie.Need-slice-bounds-read-some-start invariant-loop-length decreases-loop-length
 part-read-some-start c = search rules
 
-part-read-some-end : tie.Need-slice-bounds-read-some-end invariant-loop decreases-loop
+part-read-some-end : tie.Need-slice-bounds-read-some-end invariant-loop-length decreases-loop-length
 part-read-some-end c = search rules
 
-read-some-requires : tie.Need-read-some-requires invariant-loop decreases-loop
-read-some-requires c κs = search rules
+read_some-got-requires : tie.Need-read_some-got-requires invariant-loop-length decreases-loop-length
+read_some-got-requires c κs = search rules
 
-enum-known-got : tie.Need-enum-known-got invariant-loop decreases-loop
-enum-known-got c = search rules
+enum_known-got : tie.Need-enum_known-got invariant-loop-length decreases-loop-length
+enum_known-got c = search rules
 
-enum_told : tie.Need-enum-told invariant-loop decreases-loop
-enum_told c = search rules
+enum_told-1 : tie.Need-enum_told-1 invariant-loop-length decreases-loop-length
+enum_told-1 c = search rules
 
-same_length : tie.Need-same-length invariant-loop decreases-loop
-same_length c = search rules
+shape_of-room-in_default : tie.Need-shape_of-room-in_default invariant-loop-length decreases-loop-length
+shape_of-room-in_default c = search rules
 
-returns : tie.Need-returns invariant-loop decreases-loop
-returns c = search rules
+returns-in_default : tie.Need-returns-in_default invariant-loop-length decreases-loop-length
+returns-in_default c = search rules
 
-same_length_2 : tie.Need-same-length-2 invariant-loop decreases-loop
-same_length_2 c = search rules
+shape_of-room-then-more-eq0 : tie.Need-shape_of-room-then-more-eq0 invariant-loop-length decreases-loop-length
+shape_of-room-then-more-eq0 c = search rules
 
-returns_2 : tie.Need-returns-2 invariant-loop decreases-loop
-returns_2 c = prefix_len_of_le _ _ (search rules)
+returns-then-more-eq0 : tie.Need-returns-then-more-eq0 invariant-loop-length decreases-loop-length
+returns-then-more-eq0 c = prefix_len_of_le _ _ (search rules)
 
-add-length : tie.Need-overflow-add-length invariant-loop decreases-loop
-add-length c =
+overflow_add-length : tie.Need-overflow_add-length invariant-loop-length decreases-loop-length
+overflow_add-length c =
     let came = c.before.before in
     omega (arith, rw came.got.given.1 at came.before.before.before.before.read_Some.ensures)
 
-loop-less : tie.Need-loop-smaller invariant-loop decreases-loop
-loop-less c = search rules
+loop-length-smaller : tie.Need-loop-length-smaller invariant-loop-length decreases-loop-length
+loop-length-smaller c = search rules
 
-loop-again : tie.Need-loop-preserved invariant-loop decreases-loop
-loop-again c =
+loop-length-preserved : tie.Need-loop-length-preserved invariant-loop-length decreases-loop-length
+loop-length-preserved c =
     let came = c.before.before in
     (search rules, omega (arith, rw came.got.given.1 at came.before.before.before.before.read_Some.ensures))
 
-same-length-3 : tie.Need-same-length-3 invariant-loop decreases-loop
-same-length-3 c = search rules
+shape_of-room : tie.Need-shape_of-room invariant-loop-length decreases-loop-length
+shape_of-room c = search rules
 
-returns-3 : tie.Need-returns-3 invariant-loop decreases-loop
-returns-3 c = prefix_len_of_le _ _ (search rules)
+returns : tie.Need-returns invariant-loop-length decreases-loop-length
+returns c = prefix_len_of_le _ _ (search rules)
 
-pub read-text-spec : {M : Type 1} → statement M
-read-text-spec =
+pub read_text_spec : {M : Type 1} → statement M
+read_text_spec =
     tie.close
     (tie.spec
-    invariant-loop
-    decreases-loop
-    loop-holds
-    sub-read-some
+    invariant-loop-length
+    decreases-loop-length
+    loop-length-init
+    slice_bounds-read_some-count
     part-read-some-start
     part-read-some-end
-    read-some-requires
-    enum-known-got
-    enum_told
-    same_length
-    returns
-    same_length_2
-    returns_2
-    add-length
-    loop-less
-    loop-again
-    same-length-3
-    returns-3)
+    read_some-got-requires
+    enum_known-got
+    enum_told-1
+    shape_of-room-in_default
+    returns-in_default
+    shape_of-room-then-more-eq0
+    returns-then-more-eq0
+    overflow_add-length
+    loop-length-smaller
+    loop-length-preserved
+    shape_of-room
+    returns)
