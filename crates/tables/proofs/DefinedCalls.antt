@@ -15,7 +15,7 @@ use Rattle.tables.specs.Run.{dealing, calls_of}
 use Rattle.tables.specs.CallsFrom.{CallsFrom, here, called}
 
 -- the tables mean the core that the definitions come to
-pub from_core : {c d : Control} {t u : Tables} {trace : Trace}
+pub from_core : {c : Control} {t : Tables} {d : Control} {u : Tables} {trace : Trace}
     → CallsFrom Meets c t trace d u
     → core_of d u ≡ behind (core_of c t) (calls_of trace)
 unfolding after calls_of
@@ -36,7 +36,7 @@ from_dealing {call = call} calls m = λ i. record {
 }
 
 -- so what was called and what it got is what the definitions give to the same calls
-pub from_trace : {c d : Control} {t u : Tables} {trace : Trace}
+pub from_trace : {c : Control} {t : Tables} {d : Control} {u : Tables} {trace : Trace}
     → CallsFrom Meets c t trace d u
     → trace ≡ stretch (core_of c t) (calls_of trace)
 unfolding trace_of calls_of

@@ -41,7 +41,7 @@ promised_whole {call} {c} {t} {u} {r} p = λ i. record { core = p.meets.core i; 
         p.counts.each id count
         ∙ ap (λ (a : Answer). counts_after (core_of c t) call a (counts_of c t) id count) p.meets.answer))
 
-defined : {c d : Control} {t u : Tables} {trace : Trace} → CallsFrom Promised c t trace d u
+defined : {c : Control} {t : Tables} {d : Control} {u : Tables} {trace : Trace} → CallsFrom Promised c t trace d u
     → whole_of d u ≡ whole_behind (whole_of c t) (calls_of trace)
 unfolding whole_behind calls_of
 defined here = refl
@@ -60,7 +60,7 @@ shut_whole c t e = go c.opened refl
     go false o = λ i. record { core = e i; counts = λ id. none o id i }
 
 -- calls that keep their promise are calls that keep the part of it that a run asks for
-met : {c d : Control} {t u : Tables} {trace : Trace} → CallsFrom Promised c t trace d u → CallsFrom Meets c t trace d u
+met : {c : Control} {t : Tables} {d : Control} {u : Tables} {trace : Trace} → CallsFrom Promised c t trace d u → CallsFrom Meets c t trace d u
 met here = here
 met (calls_from.called calls p) = calls_from.called (met calls) p.meets
 

@@ -9,7 +9,7 @@ use Rattle.tables.specs.Tables.{Tables}
 use Rattle.tables.specs.CallsFrom.{CallsFrom, here, called}
 use Rattle.tables.specs.Places.{PlacesStand, may_write, Promised, may_have_written, Standing}
 
-calls_stand : {trace : Trace} {c d : Control} {t u : Tables} → CallsFrom Promised c t trace d u → may_have_written trace ≡ false
+calls_stand : {c : Control} {t : Tables} {trace : Trace} {d : Control} {u : Tables} → CallsFrom Promised c t trace d u → may_have_written trace ≡ false
     → PlacesStand t u
 unfolding may_have_written
 calls_stand here none = record { handles = refl; lengths = refl }

@@ -9,17 +9,17 @@ use Rattle.tables.proofs.active.Tie as tie
 has-requires : tie.Need-has-requires
 has-requires c κs = search rules
 
-returns : tie.Need-returns
+returns-then-has : tie.Need-returns-then-has
 unfolding kind_at
-returns c = rw (sym c.before.has.ensures ∙ c.if1.true)
+returns-then-has c = rw (sym c.before.has.ensures ∙ c.if-has.true)
 
 has-requires-2 : tie.Need-has-requires-2
 has-requires-2 c κs = search rules
 
-returns_2 : tie.Need-returns-2
+returns : tie.Need-returns
 unfolding kind_at
-returns_2 c =
-    rw (sym c.before.before.has.ensures ∙ c.before.if1.false, sym c.has2.ensures) (active_private c.has2.result)
+returns c =
+    rw (sym c.before.before.has.ensures ∙ c.before.if-has.false, sym c.has-2.ensures) (active_private c.has-2.result)
 
-pub active-spec : {M : Type 1} → statement M
-active-spec = tie.close (tie.spec has-requires returns has-requires-2 returns_2)
+pub active_spec : {M : Type 1} → statement M
+active_spec = tie.close (tie.spec has-requires returns-then-has has-requires-2 returns)

@@ -13,36 +13,36 @@ use Rattle.tables.specs.Numbers.{first_failed, refusal}
 use Rattle.tables.proofs.active_number.Statement.{statement}
 use Rattle.tables.proofs.active_number.Tie as tie
 
-returns : tie.Need-returns
+returns-then-not-control : tie.Need-returns-then-not-control
 unfolding refusal
-returns c t = rw (not-true c.before.before.args.control.opened c.if1.true)
+returns-then-not-control c t = rw (not-true c.before.before.args.control.opened c.if-not-control.true)
 
-returns_2 : tie.Need-returns-2
+returns-then-id-ge-IDS : tie.Need-returns-then-id-ge-IDS
 unfolding refusal first_failed active_checks ids
-returns_2 c t =
+returns-then-id-ge-IDS c t =
     let a = c.before.before.before.args in
-    simp (not-false a.control.opened c.before.if1.false, le-ltb a.id 64 (omega (arith, c.if2.true)))
+    simp (not-false a.control.opened c.before.if-not-control.false, le-ltb a.id 64 (omega (arith, c.if-id-ge-IDS.true)))
 
 active-requires : tie.Need-active-requires
 active-requires c κs = search rules
 
-returns-3 : tie.Need-returns-3
+returns-then-not-active : tie.Need-returns-then-not-active
 unfolding refusal first_failed active_checks ids state_of clients_of client_at
-returns-3 c t =
+returns-then-not-active c t =
     let low = c.before.before in
     let a = low.before.before.before.args in
     let dull : is_active (kind_at a.control a.id) ≡ false =
-    sym c.before.active.ensures ∙ not-true c.before.active.result c.if3.true in
-    simp (not-false a.control.opened low.before.if1.false, lt-ltb a.id 64 low.if2.false, dull)
+    sym c.before.active.ensures ∙ not-true c.before.active.result c.if-not-active.true-raw in
+    simp (not-false a.control.opened low.before.if-not-control.false, lt-ltb a.id 64 low.if-id-ge-IDS.false, dull)
 
-returns-4 : tie.Need-returns-4
+returns : tie.Need-returns
 unfolding refusal first_failed active_checks ids state_of clients_of client_at
-returns-4 c t =
+returns c t =
     let low = c.before.before in
     let a = low.before.before.before.args in
     let alert : is_active (kind_at a.control a.id) ≡ true =
-    sym c.before.active.ensures ∙ not-false c.before.active.result c.if3.false in
-    simp (not-false a.control.opened low.before.if1.false, lt-ltb a.id 64 low.if2.false, alert)
+    sym c.before.active.ensures ∙ not-false c.before.active.result c.if-not-active.false-raw in
+    simp (not-false a.control.opened low.before.if-not-control.false, lt-ltb a.id 64 low.if-id-ge-IDS.false, alert)
 
-pub active-number-spec : {M : Type 1} → statement M
-active-number-spec = tie.close (tie.spec returns returns_2 active-requires returns-3 returns-4)
+pub active_number_spec : {M : Type 1} → statement M
+active_number_spec = tie.close (tie.spec returns-then-not-control returns-then-id-ge-IDS active-requires returns-then-not-active returns)
