@@ -11,34 +11,34 @@ use Rattle.definitions.proofs.Sample.{even_span_rest, even_span-none, even_span_
 use Rattle.draw.proofs.counts.Statement.{statement}
 use Rattle.draw.proofs.counts.Tie as tie
 
-returns : tie.Need-returns
-returns c =
+returns-then-total-eq0 : tie.Need-returns-then-total-eq0
+returns-then-total-eq0 c =
     let args = c.before.args in
-    sym (rw (c.if1.true, even_span-none) (le-ltb args.value 0 (omega arith)))
+    sym (rw (c.if-total-eq0.true, even_span-none) (le-ltb args.value 0 (omega arith)))
 
-wide-requires : tie.Need-wide-requires
-wide-requires c κs = search rules
+wide-number-requires : tie.Need-wide-number-requires
+wide-number-requires c κs = search rules
 
-sub-if2 : tie.Need-overflow-sub-if2
-sub-if2 c = omega (arith, c.wide.ensures)
+overflow_sub-number : tie.Need-overflow_sub-number
+overflow_sub-number c = omega (arith, c.wide-number.ensures)
 
-returns_2 : tie.Need-returns-2
-returns_2 c =
+returns-then-total-number : tie.Need-returns-then-total-number
+returns-then-total-number c =
     let args = c.before.before.before.args in
     sym (lt-ltb args.value (even_span args.total)
-    (even_span_high args.total args.value (omega arith) (omega (arith, c.before.wide.ensures, c.if2.true))))
+    (even_span_high args.total args.value (omega arith) (omega (arith, c.before.wide-number.ensures, c.if-total-number.true))))
 
-rem-result : tie.Need-nonzero-rem-result
-rem-result c = search rules
+nonzero_rem-result : tie.Need-nonzero_rem-result
+nonzero_rem-result c = search rules
 
-sub-result : tie.Need-overflow-sub-result
-sub-result c = mod-le 4294967296 c.before.before.before.args.total
+overflow_sub-result : tie.Need-overflow_sub-result
+overflow_sub-result c = mod-le 4294967296 c.before.before.before.args.total
 
-returns-3 : tie.Need-returns-3
-returns-3 c =
+returns : tie.Need-returns
+returns c =
     let args = c.before.before.before.args in
-    ap₂ ltb c.before.wide.ensures.0 (omega (arith, even_span_rest args.total))
+    ap₂ ltb c.before.wide-number.ensures.0 (omega (arith, even_span_rest args.total))
 
-pub counts-spec : {M : Type 1} → statement M
-counts-spec =
-    tie.close (tie.spec returns wide-requires sub-if2 returns_2 rem-result sub-result returns-3)
+pub counts_spec : {M : Type 1} → statement M
+counts_spec =
+    tie.close (tie.spec returns-then-total-eq0 wide-number-requires overflow_sub-number returns-then-total-number nonzero_rem-result overflow_sub-result returns)

@@ -7,16 +7,16 @@ use Rattle.definitions.specs.Sizes.{throws}
 use Rattle.draw.proofs.is_thrown.Statement.{statement}
 use Rattle.draw.proofs.is_thrown.Tie as tie
 
-returns : tie.Need-returns
+returns-then-steps-gt-THROWS : tie.Need-returns-then-steps-gt-THROWS
 unfolding throws
-returns c = rw (lt-leb c.before.args.steps throws c.if1.true)
+returns-then-steps-gt-THROWS c = rw (lt-leb c.before.args.steps throws c.if-steps-gt-THROWS.true)
 
 counts-requires : tie.Need-counts-requires
 counts-requires c κs = search rules
 
-returns_2 : tie.Need-returns-2
+returns : tie.Need-returns
 unfolding throws
-returns_2 c = rw (le-leb c.before.before.args.steps throws c.before.if1.false) (ap not c.counts.ensures)
+returns c = rw (le-leb c.before.before.args.steps throws c.before.if-steps-gt-THROWS.false) (ap not c.counts.ensures)
 
-pub is-thrown-spec : {M : Type 1} → statement M
-is-thrown-spec = tie.close (tie.spec returns counts-requires returns_2)
+pub is_thrown_spec : {M : Type 1} → statement M
+is_thrown_spec = tie.close (tie.spec returns-then-steps-gt-THROWS counts-requires returns)

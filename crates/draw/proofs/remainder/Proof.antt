@@ -8,20 +8,20 @@ use mathlib.Core.Path.{sym, ap}
 use Rattle.draw.proofs.remainder.Statement.{statement}
 use Rattle.draw.proofs.remainder.Tie as tie
 
-returns : tie.Need-returns
-returns c = sym (rw c.if1.true (mod-zero c.before.args.value))
+returns-then-total-eq0 : tie.Need-returns-then-total-eq0
+returns-then-total-eq0 c = sym (rw c.if-total-eq0.true (mod-zero c.before.args.value))
 
 wide-requires : tie.Need-wide-requires
 wide-requires c κs = search rules
 
-rem-result : tie.Need-nonzero-rem-result
-rem-result c = search rules
+nonzero_rem-result : tie.Need-nonzero_rem-result
+nonzero_rem-result c = search rules
 
-cast-result : tie.Need-overflow-cast-result
-cast-result c = omega (arith, mod-le c.wide.result c.before.before.args.total, c.wide.ensures)
+overflow_cast-result : tie.Need-overflow_cast-result
+overflow_cast-result c = omega (arith, mod-le c.wide.result c.before.before.args.total, c.wide.ensures)
 
-returns_2 : tie.Need-returns-2
-returns_2 c = ap (λ (value : ℕ). value % c.before.before.args.total) c.wide.ensures.0
+returns : tie.Need-returns
+returns c = ap (λ (value : ℕ). value % c.before.before.args.total) c.wide.ensures.0
 
-pub remainder-spec : {M : Type 1} → statement M
-remainder-spec = tie.close (tie.spec returns wide-requires rem-result cast-result returns_2)
+pub remainder_spec : {M : Type 1} → statement M
+remainder_spec = tie.close (tie.spec returns-then-total-eq0 wide-requires nonzero_rem-result overflow_cast-result returns)

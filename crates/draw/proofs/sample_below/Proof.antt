@@ -16,13 +16,13 @@ use Rattle.definitions.proofs.Sample.{sample_from-counted, sample_from_last, sam
 use Rattle.draw.proofs.sample_below.Statement.{statement}
 use Rattle.draw.proofs.sample_below.Tie as tie
 
-abbrev invariant-loop : tie.invariant-loop
-invariant-loop total next₀ steps₀ next steps =
+abbrev invariant-loop-next : tie.invariant-loop-next
+invariant-loop-next total next₀ steps₀ next steps =
     (sample_from total (suc throws - steps) steps next.value ≡ sample_from total throws 1 next₀.value)
     × (1 ≤ steps) × (steps ≤ suc throws)
 
-abbrev decreases-loop : tie.decreases-loop
-decreases-loop total next₀ steps₀ next steps = suc throws - steps
+abbrev decreases-loop-next : tie.decreases-loop-next
+decreases-loop-next total next₀ steps₀ next steps = suc throws - steps
 
 -- what the test says of the value that is next: it is thrown away, or the sample is taken from it
 module _ (total steps value : ℕ) (low : steps ≤ suc throws) {test : Bool}
@@ -48,56 +48,56 @@ module _ (total steps value : ℕ) (low : steps ≤ suc throws) {test : Bool}
           (λ last. let none : suc throws - steps ≡ 0 = omega arith in rw none (sample_from_last total steps value))
           (λ more. absurd (true≢false (sym (rw (le-leb steps throws more, e) at asked) ∙ rest)))
 
-step-requires : tie.Need-step-requires invariant-loop decreases-loop
-step-requires c κs = search rules
+step-next-requires : tie.Need-step-next-requires invariant-loop-next decreases-loop-next
+step-next-requires c κs = search rules
 
-loop-holds : tie.Need-loop-init invariant-loop decreases-loop
-loop-holds c =
+loop-next-init : tie.Need-loop-next-init invariant-loop-next decreases-loop-next
+loop-next-init c =
     let all : suc throws - 1 ≡ throws = omega arith in
     (rw all refl, omega arith, omega arith)
 
-is-thrown-requires : tie.Need-is-thrown-requires invariant-loop decreases-loop
-is-thrown-requires c κs = search rules
+is_thrown-requires : tie.Need-is_thrown-requires invariant-loop-next decreases-loop-next
+is_thrown-requires c κs = search rules
 
-step-requires-2 : tie.Need-step-requires-2 invariant-loop decreases-loop
-step-requires-2 c κs = search rules
+step-next-requires-in-loop-next : tie.Need-step-next-requires-in-loop-next invariant-loop-next decreases-loop-next
+step-next-requires-in-loop-next c κs = search rules
 
-add-steps : tie.Need-overflow-add-steps invariant-loop decreases-loop
+overflow_add-steps : tie.Need-overflow_add-steps invariant-loop-next decreases-loop-next
 unfolding throws
-add-steps c = omega (arith, c.before.before.before.loop.invariant)
+overflow_add-steps c = omega (arith, c.before.before.before.loop-next.invariant)
 
-loop-less : tie.Need-loop-smaller invariant-loop decreases-loop
-loop-less c =
-    let loop = c.before.before.before.loop in
-    let left = thrown_left _ _ _ loop.invariant.2 c.before.before.is-thrown.ensures c.before.if1.true in
+loop-next-smaller : tie.Need-loop-next-smaller invariant-loop-next decreases-loop-next
+loop-next-smaller c =
+    let loop = c.before.before.before.loop-next in
+    let left = thrown_left _ _ _ loop.invariant.2 c.before.before.is_thrown.ensures c.before.loop-next-test.true in
     omega (arith, left)
 
-loop-again : tie.Need-loop-preserved invariant-loop decreases-loop
-loop-again c =
-    let loop = c.before.before.before.loop in
-    let test = c.before.before.is-thrown.ensures in
-    let left = thrown_left _ _ _ loop.invariant.2 test c.before.if1.true in (
-      rw c.step2.ensures (sym (thrown _ _ _ loop.invariant.2 test c.before.if1.true) ∙ loop.invariant.0),
+loop-next-preserved : tie.Need-loop-next-preserved invariant-loop-next decreases-loop-next
+loop-next-preserved c =
+    let loop = c.before.before.before.loop-next in
+    let test = c.before.before.is_thrown.ensures in
+    let left = thrown_left _ _ _ loop.invariant.2 test c.before.loop-next-test.true in (
+      rw c.step-next-in-loop-next.ensures (sym (thrown _ _ _ loop.invariant.2 test c.before.loop-next-test.true) ∙ loop.invariant.0),
       omega arith,
       omega (arith, left),
     )
 
-remainder-requires : tie.Need-remainder-requires invariant-loop decreases-loop
+remainder-requires : tie.Need-remainder-requires invariant-loop-next decreases-loop-next
 remainder-requires c κs = search rules
 
-returns : tie.Need-returns invariant-loop decreases-loop
+returns : tie.Need-returns invariant-loop-next decreases-loop-next
 unfolding sample
 returns c =
-    let loop = c.before.before.before.loop in
+    let loop = c.before.before.before.loop-next in
     let start = c.before.before.before.before in
     let given : sample start.before.args.total start.before.args.generator.value
     ≡ counted start.before.args.total loop.steps loop.next.value =
-    ap (sample_from start.before.args.total throws 1) (sym start.step.ensures) ∙ sym loop.invariant.0
-    ∙ taken _ _ _ loop.invariant.2 c.before.before.is-thrown.ensures c.before.if1.false in
+    ap (sample_from start.before.args.total throws 1) (sym start.step-next.ensures) ∙ sym loop.invariant.0
+    ∙ taken _ _ _ loop.invariant.2 c.before.before.is_thrown.ensures c.before.loop-next-test.false in
     rw given (record { target = c.remainder.ensures; sum = refl; generator = refl; steps = refl })
 
-pub sample-below-spec : {M : Type 1} → statement M
-sample-below-spec =
+pub sample_below_spec : {M : Type 1} → statement M
+sample_below_spec =
     tie.close
-    (tie.spec invariant-loop decreases-loop step-requires loop-holds is-thrown-requires step-requires-2 add-steps loop-less loop-again
+    (tie.spec invariant-loop-next decreases-loop-next step-next-requires loop-next-init is_thrown-requires step-next-requires-in-loop-next overflow_add-steps loop-next-smaller loop-next-preserved
     remainder-requires returns)

@@ -11,77 +11,77 @@ use Rattle.draw.specs.Weights.{own_rate, weight_at}
 use Rattle.draw.proofs.total.Statement.{statement}
 use Rattle.draw.proofs.total.Tie as tie
 
-abbrev invariant-loop : tie.invariant-loop
-invariant-loop word terms left₀ sum₀ left sum = Walked word (own_rate terms) (2 ^ 32) left sum
+abbrev invariant-loop-left : tie.invariant-loop-left
+invariant-loop-left word terms left₀ sum₀ left sum = Walked word (own_rate terms) (2 ^ 32) left sum
 
-abbrev decreases-loop : tie.decreases-loop
-decreases-loop word terms left₀ sum₀ left sum = left
+abbrev decreases-loop-left : tie.decreases-loop-left
+decreases-loop-left word terms left₀ sum₀ left sum = left
 
 -- what is known of the mark and its rate once they are read
-turn : (c : tie.After-wide invariant-loop decreases-loop)
-    → let loop = c.before.before.before.before.loop in
+turn : (c : tie.After-wide-sum invariant-loop-left decreases-loop-left)
+    → let loop = c.before.before.before.before.loop-left in
     let args = c.before.before.before.before.before.args in
     Turn args.word (own_rate args.terms.now) (2 ^ 32) loop.left loop.sum
-    c.before.before.first.result c.wide.result
+    c.before.before.first-id.result c.wide-sum.result
 turn c = record {
-  more = omega (arith, c.before.before.before.loop-test.true);
-  walked = c.before.before.before.before.loop.invariant;
-  at = c.before.before.first.ensures;
-  of = c.wide.ensures.0;
-  bound = omega (arith, c.wide.ensures.1);
+  more = omega (arith, c.before.before.before.loop-left-test.true);
+  walked = c.before.before.before.before.loop-left.invariant;
+  at = c.before.before.first-id.ensures;
+  of = c.wide-sum.ensures.0;
+  bound = omega (arith, c.wide-sum.ensures.1);
 }
 
-loop-holds : tie.Need-loop-init invariant-loop decreases-loop
+loop-left-init : tie.Need-loop-left-init invariant-loop-left decreases-loop-left
 unfolding ids
-loop-holds c = walked_start c.args.word (own_rate c.args.terms.now) (2 ^ 32) (search rules)
+loop-left-init c = walked_start c.args.word (own_rate c.args.terms.now) (2 ^ 32) (search rules)
 
-first-requires : tie.Need-first-requires invariant-loop decreases-loop
-first-requires c κs = search rules
+first-id-requires : tie.Need-first-id-requires invariant-loop-left decreases-loop-left
+first-id-requires c κs = search rules
 
-cast-wide : tie.Need-overflow-cast-wide invariant-loop decreases-loop
-cast-wide c = search rules
+overflow_cast-id : tie.Need-overflow_cast-id invariant-loop-left decreases-loop-left
+overflow_cast-id c = search rules
 
-mul_wide : tie.Need-overflow-mul-wide invariant-loop decreases-loop
-mul_wide c = search rules
+offset_bounds-terms-id : tie.Need-offset_bounds-terms-id invariant-loop-left decreases-loop-left
+offset_bounds-terms-id c = search rules
 
-element-copy-out-wide : tie.Need-element-copy-out-wide invariant-loop decreases-loop
+bounds-terms-id : tie.Need-bounds-terms-id invariant-loop-left decreases-loop-left
 unfolding ids
-element-copy-out-wide c = omega (arith, c.first.ensures, first_from_le 64 (marked c.before.before.loop.left))
+bounds-terms-id c = omega (arith, c.first-id.ensures, first_from_le 64 (marked c.before.before.loop-left.left))
 
-wide-requires : tie.Need-wide-requires invariant-loop decreases-loop
-wide-requires c κs = search rules
+wide-sum-requires : tie.Need-wide-sum-requires invariant-loop-left decreases-loop-left
+wide-sum-requires c κs = search rules
 
-add-sum : tie.Need-overflow-add-sum invariant-loop decreases-loop
+overflow_add-sum : tie.Need-overflow_add-sum invariant-loop-left decreases-loop-left
 unfolding ids
-add-sum c = omega (arith, turn_small (turn c))
+overflow_add-sum c = omega (arith, turn_small (turn c))
 
-rest-requires : tie.Need-rest-requires invariant-loop decreases-loop
-rest-requires c κs = search rules
+rest-left-requires : tie.Need-rest-left-requires invariant-loop-left decreases-loop-left
+rest-left-requires c κs = search rules
 
-loop-less : tie.Need-loop-smaller invariant-loop decreases-loop
-loop-less c = c.rest.ensures.1 (turn c.before).more
+loop-left-smaller : tie.Need-loop-left-smaller invariant-loop-left decreases-loop-left
+loop-left-smaller c = c.rest-left.ensures.1 (turn c.before).more
 
-loop-again : tie.Need-loop-preserved invariant-loop decreases-loop
-loop-again c = turn_rest (turn c.before) c.rest.result c.rest.ensures.0 (loop-less c)
+loop-left-preserved : tie.Need-loop-left-preserved invariant-loop-left decreases-loop-left
+loop-left-preserved c = turn_rest (turn c.before) c.rest-left.result c.rest-left.ensures.0 (loop-left-smaller c)
 
-returns : tie.Need-returns invariant-loop decreases-loop
+returns : tie.Need-returns invariant-loop-left decreases-loop-left
 unfolding weight_at
-returns c = walked_all c.before.loop.invariant c.loop-test.false
+returns c = walked_all c.before.loop-left.invariant c.loop-left-test.false
 
-pub total-spec : {M : Type 1} → statement M
-total-spec =
+pub total_spec : {M : Type 1} → statement M
+total_spec =
     tie.close
     (tie.spec
-    invariant-loop
-    decreases-loop
-    loop-holds
-    first-requires
-    cast-wide
-    mul_wide
-    element-copy-out-wide
-    wide-requires
-    add-sum
-    rest-requires
-    loop-less
-    loop-again
+    invariant-loop-left
+    decreases-loop-left
+    loop-left-init
+    first-id-requires
+    overflow_cast-id
+    offset_bounds-terms-id
+    bounds-terms-id
+    wide-sum-requires
+    overflow_add-sum
+    rest-left-requires
+    loop-left-smaller
+    loop-left-preserved
     returns)

@@ -24,5 +24,5 @@ returns c =
     } in
     ap holding c.new.ensures
 
-pub control-of-spec : {M : Type 1} → statement M
-control-of-spec = tie.close (tie.spec new-requires returns)
+pub control_of_spec : {M : Type 1} → statement M
+control_of_spec = tie.close (tie.spec new-requires returns)

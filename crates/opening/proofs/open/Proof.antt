@@ -13,23 +13,23 @@ use Rattle.opening.proofs.OpenPromise.{open_refused, open_refused_counts, open_a
 use Rattle.opening.proofs.open.Statement.{statement}
 use Rattle.opening.proofs.open.Tie as tie
 
-open-number-requires : tie.Need-open-number-requires
-open-number-requires c κs = search rules
+open_number-number-requires : tie.Need-open_number-number-requires
+open_number-number-requires c κs = search rules
 
 refused-requires : tie.Need-refused-requires
 refused-requires c κs = search rules
 
-returns : tie.Need-returns
-returns c =
+returns-then-number-ne0 : tie.Need-returns-then-number-ne0
+returns-then-number-ne0 c =
     let start = c.before.before.before in
     in_place refl refl
     (open_refused_counts start.args.control _ start.requires start.args.threshold start.args.discipline start.args.seed
     c.refused.result _ c.refused.ensures)
     (open_refused start.args.control _ start.requires start.args.threshold start.args.discipline start.args.seed
-    c.refused.result _ c.refused.ensures c.before.before.open-number.ensures c.before.if1.true)
+    c.refused.result _ c.refused.ensures c.before.before.open_number-number.ensures c.before.if-number-ne0.true)
 
-control-of-requires : tie.Need-control-of-requires
-control-of-requires c κs = search rules
+control_of-requires : tie.Need-control_of-requires
+control_of-requires c κs = search rules
 
 accepted-requires : tie.Need-accepted-requires
 accepted-requires c κs = search rules
@@ -38,20 +38,20 @@ accepted-requires c κs = search rules
 abbrev accepting : Control → Answered
 accepting d = record { control = d; answer = Accepted }
 
-returns_2 : tie.Need-returns-2
+returns : tie.Need-returns
 unfolding ids places sentinel link_count is_accepted
-returns_2 c =
+returns c =
     let e = c.before.before.before.before.before.before.before.before in
     let start = e.before.before in
-    let answered = c.accepted.ensures ∙ ap accepting c.before.control-of.ensures in
+    let answered = c.accepted.ensures ∙ ap accepting c.before.control_of.ensures in
     with_places c.accepted.ensures refl
     (open_counts start.args.control _ start.requires start.args.threshold start.args.discipline start.args.seed
     c.accepted.result answered)
     (open_accepted start.args.control _ start.requires start.args.threshold start.args.discipline start.args.seed
     c.accepted.result
     answered
-    (sym e.before.open-number.ensures ∙ e.if1.false))
+    (sym e.before.open_number-number.ensures ∙ e.if-number-ne0.false))
 
 pub open_spec : {M : Type 1} → statement M
 open_spec =
-    tie.close (tie.spec open-number-requires refused-requires returns control-of-requires accepted-requires returns_2)
+    tie.close (tie.spec open_number-number-requires refused-requires returns-then-number-ne0 control_of-requires accepted-requires returns)

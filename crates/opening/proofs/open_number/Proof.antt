@@ -7,47 +7,47 @@ use Rattle.tables.specs.Numbers.{first_failed}
 use Rattle.opening.proofs.open_number.Statement.{statement}
 use Rattle.opening.proofs.open_number.Tie as tie
 
-returns : tie.Need-returns
+returns-then-threshold-lt1 : tie.Need-returns-then-threshold-lt1
 unfolding first_failed open_checks within
-returns c = simp (lt-leb 1 c.before.args.threshold c.if1.true)
+returns-then-threshold-lt1 c = simp (lt-leb 1 c.before.args.threshold c.if-threshold-lt1.true)
 
-returns_2 : tie.Need-returns-2
+returns-then-threshold-gt-SHARES : tie.Need-returns-then-threshold-gt-SHARES
 unfolding first_failed open_checks within shares
-returns_2 c =
+returns-then-threshold-gt-SHARES c =
     let args = c.before.before.args in
-    simp (le-leb 1 args.threshold c.before.if1.false, lt-leb args.threshold 1024 c.if2.true)
+    simp (le-leb 1 args.threshold c.before.if-threshold-lt1.false, lt-leb args.threshold 1024 c.if-threshold-gt-SHARES.true)
 
-returns-3 : tie.Need-returns-3
+returns-then-discipline-gt-WEIGHTED_DRAW : tie.Need-returns-then-discipline-gt-WEIGHTED_DRAW
 unfolding first_failed open_checks within shares weighted_draw
-returns-3 c =
+returns-then-discipline-gt-WEIGHTED_DRAW c =
     let args = c.before.before.before.args in
     simp (
-      le-leb 1 args.threshold c.before.before.if1.false,
-      le-leb args.threshold 1024 c.before.if2.false,
-      lt-leb args.discipline 1 c.if3.true,
+      le-leb 1 args.threshold c.before.before.if-threshold-lt1.false,
+      le-leb args.threshold 1024 c.before.if-threshold-gt-SHARES.false,
+      lt-leb args.discipline 1 c.if-discipline-gt-WEIGHTED_DRAW.true,
     )
 
-returns-4 : tie.Need-returns-4
+returns-then-seed-eq0 : tie.Need-returns-then-seed-eq0
 unfolding first_failed open_checks within shares weighted_draw
-returns-4 c =
+returns-then-seed-eq0 c =
     let args = c.before.before.before.before.args in
     simp (
-      le-leb 1 args.threshold c.before.before.before.if1.false,
-      le-leb args.threshold 1024 c.before.before.if2.false,
-      le-leb args.discipline 1 c.before.if3.false,
-      eq-eqb args.seed 0 c.if4.true,
+      le-leb 1 args.threshold c.before.before.before.if-threshold-lt1.false,
+      le-leb args.threshold 1024 c.before.before.if-threshold-gt-SHARES.false,
+      le-leb args.discipline 1 c.before.if-discipline-gt-WEIGHTED_DRAW.false,
+      eq-eqb args.seed 0 c.if-seed-eq0.true,
     )
 
-returns-5 : tie.Need-returns-5
+returns : tie.Need-returns
 unfolding first_failed open_checks within shares weighted_draw
-returns-5 c =
+returns c =
     let args = c.before.before.before.before.args in
     simp (
-      le-leb 1 args.threshold c.before.before.before.if1.false,
-      le-leb args.threshold 1024 c.before.before.if2.false,
-      le-leb args.discipline 1 c.before.if3.false,
-      ne_eqb args.seed 0 c.if4.false,
+      le-leb 1 args.threshold c.before.before.before.if-threshold-lt1.false,
+      le-leb args.threshold 1024 c.before.before.if-threshold-gt-SHARES.false,
+      le-leb args.discipline 1 c.before.if-discipline-gt-WEIGHTED_DRAW.false,
+      ne_eqb args.seed 0 c.if-seed-eq0.false,
     )
 
-pub open-number-spec : {M : Type 1} → statement M
-open-number-spec = tie.close (tie.spec returns returns_2 returns-3 returns-4 returns-5)
+pub open_number_spec : {M : Type 1} → statement M
+open_number_spec = tie.close (tie.spec returns-then-threshold-lt1 returns-then-threshold-gt-SHARES returns-then-discipline-gt-WEIGHTED_DRAW returns-then-seed-eq0 returns)

@@ -8,13 +8,13 @@ use Rattle.tables.proofs.Promises.{core_of_shut}
 use Rattle.opening.proofs.unopened.Statement.{statement}
 use Rattle.opening.proofs.unopened.Tie as tie
 
-control-of-requires : tie.Need-control-of-requires
-control-of-requires c κs = search rules
+control_of-requires : tie.Need-control_of-requires
+control_of-requires c κs = search rules
 
 returns : tie.Need-returns
 returns c t =
-    let shut = ap (λ (d : Control). d.opened) c.control-of.ensures in
-    (core_of_shut c.control-of.result t shut, λ e. true-false e shut)
+    let shut = ap (λ (d : Control). d.opened) c.control_of.ensures in
+    (core_of_shut c.control_of.result t shut, λ e. true-false e shut)
 
-pub unopened-spec : {M : Type 1} → statement M
-unopened-spec = tie.close (tie.spec control-of-requires returns)
+pub unopened_spec : {M : Type 1} → statement M
+unopened_spec = tie.close (tie.spec control_of-requires returns)

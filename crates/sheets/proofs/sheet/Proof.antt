@@ -13,26 +13,26 @@ use Rattle.sheets.proofs.SheetGiven.{sheet-refused, sheet_below, sheet-given}
 use Rattle.sheets.proofs.sheet.Statement.{statement}
 use Rattle.sheets.proofs.sheet.Tie as tie
 
-active-number-requires : tie.Need-active-number-requires
-active-number-requires c κs = search rules
+active_number-number-requires : tie.Need-active_number-number-requires
+active_number-number-requires c κs = search rules
 
-returns : tie.Need-returns
-returns c t e =
+returns-then-number-ne0 : tie.Need-returns-then-number-ne0
+returns-then-number-ne0 c t e =
     let start = c.before.before in
-    sheet-refused start.args.control t start.args.id _ (c.before.active-number.ensures t) c.if1.true
+    sheet-refused start.args.control t start.args.id _ (c.before.active_number-number.ensures t) c.if-number-ne0.true
 
 sheet-requires : tie.Need-sheet-requires
 sheet-requires c κs =
     let start = c.before.before in
-    sheet_below start.args.control (tables [] [] [] [] [] []) start.args.id _ (c.before.active-number.ensures _) c.if1.false
+    sheet_below start.args.control (tables [] [] [] [] [] []) start.args.id _ (c.before.active_number-number.ensures _) c.if-number-ne0.false
 
-returns_2 : tie.Need-returns-2
-returns_2 c t e =
+returns : tie.Need-returns
+returns c t e =
     let tested = c.before in
     let start = tested.before.before in
     let given : CountSheet → Sheet = Counts in
     ap given (c.sheet.ensures ∙ ap (λ (table : List ℕ). sheet_of (count_in table start.args.id)) (sym e))
-    ∙ sheet-given start.args.control t start.args.id _ (tested.before.active-number.ensures t) tested.if1.false
+    ∙ sheet-given start.args.control t start.args.id _ (tested.before.active_number-number.ensures t) tested.if-number-ne0.false
 
-pub sheet-spec : {M : Type 1} → statement M
-sheet-spec = tie.close (tie.spec active-number-requires returns sheet-requires returns_2)
+pub sheet_spec : {M : Type 1} → statement M
+sheet_spec = tie.close (tie.spec active_number-number-requires returns-then-number-ne0 sheet-requires returns)
