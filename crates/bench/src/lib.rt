@@ -13,7 +13,7 @@ use tables::{Control, STOCKS, STORE, TERMS};
 const LISTED: usize = IDS as usize;
 
 // What a stretch of calls leaves: the control, and a sum over the answers.
-#[derive(Drop)]
+#[derive(Clone, Copy)]
 pub struct Tally {
     pub control: Control,
     pub sum: u64,
@@ -21,7 +21,7 @@ pub struct Tally {
 
 // A stage of a sequence: ids join, with their terms; some packets come into each queue; then rounds, with arrivals for ids from
 // one up to another.
-#[derive(Drop)]
+#[derive(Clone, Copy)]
 pub struct Stage {
     pub first: u32,
     pub end: u32,

@@ -7,7 +7,7 @@ ghost use Rattle.bucket.specs.Buckets.{bucket_of, Within, level_after, refilled}
 
 use definitions::SHARES;
 
-#[derive(Drop)]
+#[derive(Clone, Copy)]
 pub struct Bucket {
     pub level: u32,
     pub rate: u32,

@@ -39,14 +39,14 @@ pub const FIRST_COME: u32 = 0;
 pub const WEIGHTED_DRAW: u32 = 1;
 
 // A packet: a handle, which the core carries and never reads, and a length in bytes.
-#[derive(Drop)]
+#[derive(Clone, Copy)]
 pub struct Packet {
     pub handle: u64,
     pub length: u32,
 }
 
 // What leaves in a slot: "one of four, and a real one carries its packet".
-#[derive(Drop)]
+#[derive(Clone, Copy)]
 pub enum Outcome {
     Real {
         id: u32,
@@ -63,7 +63,7 @@ pub enum Outcome {
 }
 
 // What a call gets: accepted, the number of the first check that failed, or the slot.
-#[derive(Drop)]
+#[derive(Clone, Copy)]
 pub enum Answer {
     Accepted,
     Refused { number: u32 },
@@ -71,7 +71,7 @@ pub enum Answer {
 }
 
 // Why a slot is whose it is: by a draw, with its target and the sum of the rates in it, or without one.
-#[derive(Drop)]
+#[derive(Clone, Copy)]
 pub enum Reason {
     Undrawn,
     Drawn { target: u32, sum: u64 },
@@ -79,7 +79,7 @@ pub enum Reason {
 
 // What a sheet tells of a tick: the number of a refusal; the slot, whole; or only that it went to an indifferent client, or to
 // another private one.
-#[derive(Drop)]
+#[derive(Clone, Copy)]
 pub enum Note {
     Refusal { number: u32 },
     Told { outcome: Outcome, reason: Reason },
@@ -88,7 +88,7 @@ pub enum Note {
 }
 
 // A client's counts since its join, in the order in which billing names them. Each wraps at 64 bits.
-#[derive(Drop)]
+#[derive(Clone, Copy)]
 pub struct CountSheet {
     pub accepted: u64,
     pub sent: u64,
@@ -101,7 +101,7 @@ pub struct CountSheet {
 }
 
 // What billing gets for an id: its counts, or the number of the first check that failed.
-#[derive(Drop)]
+#[derive(Clone, Copy)]
 pub enum Sheet {
     Counts { counts: CountSheet },
     Unavailable { number: u32 },

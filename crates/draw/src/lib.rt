@@ -15,7 +15,7 @@ use tables::TERMS;
 const VALUES: u64 = 4294967296;
 
 // What a draw takes from the generator: the target, the sum of the rates in the draw, the generator after it, and how many steps it took.
-#[derive(Drop)]
+#[derive(Clone, Copy)]
 pub struct Sample {
     pub target: u32,
     pub sum: u64,

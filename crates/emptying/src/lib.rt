@@ -20,7 +20,7 @@ const CROWD_TICKS: u32 = BURST_LIMIT * SHARES / CROWD_RATE + 1;
 
 // Which clients are emptied, and how: so many, of a kind and with a rate, to whom packets come, first some at once and then in
 // rounds. They leave, where the new kind is 0, or change to it.
-#[derive(Drop)]
+#[derive(Clone, Copy)]
 pub struct Plan {
     pub clients: u32,
     pub kind: u32,

@@ -28,7 +28,7 @@ const TOO_LONG: u32 = 18;
 const UNFAIR: u32 = 22;
 
 // What reading gave: the number that refuses the text, or 0, the threshold and how many demands there are.
-#[derive(Drop)]
+#[derive(Clone, Copy)]
 struct Reading {
     refused: u32,
     threshold: u32,

@@ -5,7 +5,7 @@ use definitions::Packet;
 pub const TEXT_LIMIT: usize = 60000;
 
 // The calls that a form may stand for, with their arguments in the order of the paper. Any number may stand anywhere.
-#[derive(Drop)]
+#[derive(Clone, Copy)]
 pub enum Call {
     Open {
         threshold: u32,
@@ -39,7 +39,7 @@ pub enum Call {
 }
 
 // What a line holds: a form, as the call that it stands for, or the number that it is answered with.
-#[derive(Drop)]
+#[derive(Clone, Copy)]
 pub enum Line {
     Form { call: Call },
     Refused { number: u32 },
@@ -47,7 +47,7 @@ pub enum Line {
 
 // For whom a text is printed: for the caller, who is given the answer to each line; or for the operator, or a private tenant, who
 // are told of each tick.
-#[derive(Drop)]
+#[derive(Clone, Copy)]
 pub enum Audience {
     Caller,
     Operator,

@@ -46,7 +46,7 @@ const ARGUMENTS: usize = 3;
 
 // What a run keeps beside its maker of calls and its check: the phase; of the stretch its rate, its level at the start, its
 // ticks and the packets accepted; and the offerings that ended, and those that were exact.
-#[derive(Drop)]
+#[derive(Clone, Copy)]
 pub struct Counts {
     pub phase: u32,
     pub rate: u32,
@@ -58,7 +58,7 @@ pub struct Counts {
 }
 
 // How far a run has come, beside its tables.
-#[derive(Drop)]
+#[derive(Clone, Copy)]
 pub struct GreedyProgress {
     pub progress: Progress,
     pub counts: Counts,

@@ -54,7 +54,7 @@ const ARRIVE: u64 = b'a' as u64;
 const TICK: u64 = b't' as u64;
 
 // The number that some digits spell: its value, or the mark that it has passed 64 bits.
-#[derive(Drop)]
+#[derive(Clone, Copy)]
 struct Amount {
     past: bool,
     value: u64,
@@ -62,7 +62,7 @@ struct Amount {
 
 // A number in a line: whether it is spelled right, whether it is above its limit, its value where it is not, and the place
 // behind it.
-#[derive(Drop)]
+#[derive(Clone, Copy)]
 struct Numeral {
     is: bool,
     large: bool,
@@ -71,21 +71,21 @@ struct Numeral {
 }
 
 // A word that is one number, or any other.
-#[derive(Drop)]
+#[derive(Clone, Copy)]
 pub enum Word {
     Number { value: u32 },
     Other,
 }
 
 // A byte of a template: whether it is a gap, and the largest number that may stand there.
-#[derive(Drop)]
+#[derive(Clone, Copy)]
 struct Gap {
     is: bool,
     limit: u64,
 }
 
 // What a form with one number or two finds in a line: the number that refuses it, or 0 and the form's numbers.
-#[derive(Drop)]
+#[derive(Clone, Copy)]
 pub struct Pair {
     pub refused: u32,
     pub first: u32,
@@ -93,7 +93,7 @@ pub struct Pair {
 }
 
 // What stands behind `(join ` and `(change `: the number that refuses it, or 0 and the numbers of the call.
-#[derive(Drop)]
+#[derive(Clone, Copy)]
 struct Terms {
     refused: u32,
     id: u32,

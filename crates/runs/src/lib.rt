@@ -17,14 +17,14 @@ use tables::{Control, STOCKS, STORE, TERMS};
 const WORD: u64 = 4294967296;
 
 // The maker of calls: the generator that it draws from, and whether the time is quiet.
-#[derive(Drop)]
+#[derive(Clone, Copy)]
 pub struct Maker {
     pub generator: Generator,
     pub quiet: bool,
 }
 
 // How far a long run has come, beside its tables: the core's control, the maker of calls, and the check.
-#[derive(Drop)]
+#[derive(Clone, Copy)]
 pub struct Progress {
     pub control: Control,
     pub maker: Maker,
@@ -32,7 +32,7 @@ pub struct Progress {
 }
 
 // The four draws that a call takes, and the maker of calls as they leave it.
-#[derive(Drop)]
+#[derive(Clone, Copy)]
 pub struct Draws {
     pub a: u32,
     pub b: u32,
@@ -42,7 +42,7 @@ pub struct Draws {
 }
 
 // What a call gives: how far the run has come with it, and its answer.
-#[derive(Drop)]
+#[derive(Clone, Copy)]
 pub struct Taken {
     pub progress: Progress,
     pub answer: Answer,

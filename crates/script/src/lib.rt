@@ -27,7 +27,7 @@ const NO_FORM: u32 = 16;
 const TOO_LONG: u32 = 18;
 
 // How far a script was read: the control there, the place behind the last line, and how many bytes were written.
-#[derive(Drop)]
+#[derive(Clone, Copy)]
 pub struct Progress {
     pub control: Control,
     pub next: usize,

@@ -43,7 +43,7 @@ const PRIVATE_DRAW: u32 = 2;
 const NOBODY: u32 = 3;
 
 // Whose slot it is: by which of the paper's rules, whose id, and what was drawn, with the generator after the pick.
-#[derive(Drop)]
+#[derive(Clone, Copy)]
 struct Choice {
     rule: u32,
     id: u32,
@@ -113,7 +113,7 @@ fn turn(control: Control, terms: &[u32; TERMS], links: &[u32; LINKS]) -> Choice
 }
 
 // What a client sent in its slot, and the control after it.
-#[derive(Drop)]
+#[derive(Clone, Copy)]
 struct Sent {
     control: Control,
     outcome: Outcome,
@@ -309,7 +309,7 @@ fn refill_each(word: u64, terms: &mut [u32; TERMS])
 }
 
 // What a tick gives: the answer with the control after it, and what was drawn; where nobody was, that has 0 steps and a sum of 0.
-#[derive(Drop)]
+#[derive(Clone, Copy)]
 pub struct Ticked {
     pub answered: Answered,
     pub sample: Sample,

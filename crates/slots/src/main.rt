@@ -28,7 +28,7 @@ const OPTION: usize = 2;
 const NUMBERED: usize = 3;
 
 // What the arguments ask for.
-#[derive(Drop)]
+#[derive(Clone, Copy)]
 enum Request {
     Printout { audience: Audience },
     Forecast { ticks: u32 },

@@ -9,14 +9,14 @@ use libc::{EINTR, STDIN_FILENO, STDOUT_FILENO};
 const TRIES: u32 = 1000000;
 
 // What reading gave: so many bytes, or a read that failed.
-#[derive(Drop)]
+#[derive(Clone, Copy)]
 pub enum Reading {
     Bytes(usize),
     Failed,
 }
 
 // What writing gave: so many bytes handed on, or a write that failed.
-#[derive(Drop)]
+#[derive(Clone, Copy)]
 pub enum Writing {
     Bytes(usize),
     Failed,

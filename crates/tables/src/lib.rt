@@ -12,7 +12,7 @@ use generator::Generator;
 
 // What of the core is no table, and goes by value. Its fields stand by falling size, so that no padding between two of them is copied
 // along.
-#[derive(Drop)]
+#[derive(Clone, Copy)]
 pub struct Control {
     // a mark for each id that is indifferent, that is private, and that has packets waiting
     pub indifferent: u64,
@@ -27,7 +27,7 @@ pub struct Control {
 }
 
 // What a call gives: its answer, and the control after it.
-#[derive(Drop)]
+#[derive(Clone, Copy)]
 pub struct Answered {
     pub control: Control,
     pub answer: Answer,
