@@ -16,7 +16,7 @@ use Rattle.grammar.specs.declared.Line.TheVariants.{Form, Refused as Unread}
 use Rattle.grammar.specs.Bytes.{line_feed, Unbroken}
 use Rattle.grammar.specs.Grammar.{parsed}
 use Rattle.grammar.specs.Printout.{whole_by, left_from_in, whole_from}
-use Rattle.grammar.specs.Lines.{lines, held, heard, told_from, told}
+use Rattle.grammar.specs.Lines.{lines, heard, told_from, told}
 use Rattle.grammar.specs.CountLines.{sheet_line, line_of, CountsOnPaper}
 use Rattle.grammar.proofs.LineSplits.{closed_line, open_line, held_closed, held_open}
 use Rattle.grammar.proofs.LinesShown.{unbroken_append}

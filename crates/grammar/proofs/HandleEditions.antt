@@ -192,7 +192,9 @@ module _ (older newer : ℕ) (to : Audience) where
   same_from up core line (b ∷ text) short =
       eqb-cases (λ t. Same core line (b ∷ text)) b line_feed
       (λ e. let s = longer_ends older line text (rw e at short) in
-      rw e (same_closes core line text (same_line older newer line up s.0) (same_from up _ [] text s.1)))
+      rw e
+      (same_closes core line text (same_line older newer line up s.0)
+      (same_from up (answered core (parsed_in newer line)).core [] text s.1)))
       (λ other. joins older to core line b text other
       ∙ same_from up core (line ++ (b ∷ [])) text (sym (longer_joins older line b text other) ∙ short)
       ∙ sym (joins newer to core line b text other))

@@ -3,7 +3,6 @@
 use Rattle.std.specs.Prelude.{ℕ, ◌≢◌, List, [], ◌∷◌}
 use Prim.Native.Char.{code}
 use Prim.Native.String.{String}
-use Prim.Native.String
 
 abbrev pub bytes : String → List ℕ
 bytes String.[] = []

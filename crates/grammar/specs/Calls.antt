@@ -1,6 +1,5 @@
 -- The call that a form stands for, as an event of a history (paper 01, "The calls").
 use Rattle.definitions.specs.Event.{Event}
-use Rattle.definitions.specs.Event
 use Rattle.grammar.specs.declared.Call.{Call}
 use Rattle.grammar.specs.declared.Call.TheVariants.{Open, Join, Change, Leave, Load, Arrive, Tick}
 

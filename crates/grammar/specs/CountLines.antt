@@ -1,6 +1,6 @@
 -- What `slots --counts` prints for a script, in place of its answers (paper 02, S-7): "for every active client by rising id", behind the
 -- script, its counts "in the order in which billing names them". The lines are spelt as those of a printout are.
-use Rattle.std.specs.Prelude.{ℕ, zero, suc, ◌≤◌, ◌≡◌, true, false, List, [], ◌∷◌, ◌++◌, ltb, length}
+use Rattle.std.specs.Prelude.{ℕ, zero, suc, ◌≡◌, true, false, List, [], ◌∷◌, ◌++◌, ltb, length}
 use Rattle.definitions.specs.declared.Answer.TheVariants.{Refused}
 use Rattle.definitions.specs.declared.CountSheet.{CountSheet}
 use Rattle.definitions.specs.declared.Sheet.{Sheet}

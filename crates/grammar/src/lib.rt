@@ -1,4 +1,6 @@
 // What a line of the script holds, and for whom a text is printed. The grammar and the printout stand in specs/.
+#![tactic(auto)]
+
 use definitions::Packet;
 
 // The longest text that is read. For the proofs it stands in specs/Bytes.antt, and where the two disagree a proof fails.
