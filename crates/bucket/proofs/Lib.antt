@@ -1,2 +1,1 @@
-pub mod BucketHeld
 pub mod WideSums

@@ -1,6 +1,7 @@
 // The bucket of an indifferent client (paper 01, "Clients, queues, pools"): the refill of the bucket that it is lent, and what it
-// buys in some ticks. The formulas are covered; `refill` and `level_after` reach a struct through a reference, and are proved
-// by a walk. `Bucket` and `refill` are public since the paper names this form.
+// buys in some ticks. `Bucket` and `refill` are public since the paper names this form.
+#![tactic(auto)]
+
 ghost use Rattle.std.specs.Prelude.{◌≡◌, ◌^◌, ◌<◌};
 ghost use Rattle.definitions.specs.Stretch.{tokens};
 ghost use Rattle.bucket.specs.Buckets.{bucket_of, Within, level_after, refilled};
@@ -32,7 +33,7 @@ pub fn refill(bucket: &mut Bucket)
     bucket.level = filled(bucket.level, bucket.rate, bucket.burst);
 }
 
-// From three numbers to a bucket and back: its contract says nothing of a reference, so that its callers need no walk.
+// From three numbers to a bucket and back: its contract says nothing of a reference.
 pub fn level_after(level: u32, rate: u32, burst: u32) -> u32
     requires { Within (bucket_of level rate burst) }
     ensures { result ≡ (refilled (bucket_of level rate burst)).level }

@@ -7,21 +7,21 @@ use Rattle.definitions.specs.Sizes.{shares, burst_limit}
 use Rattle.bucket.proofs.filled.Statement.{statement}
 use Rattle.bucket.proofs.filled.Tie as tie
 
-mul-full : tie.Need-overflow-mul-full
+overflow_mul-full : tie.Need-overflow_mul-full
 unfolding shares burst_limit
-mul-full c = omega arith
+overflow_mul-full c = omega arith
 
-add-sum : tie.Need-overflow-add-sum
+overflow_add-sum : tie.Need-overflow_add-sum
 unfolding shares burst_limit
-add-sum c = omega arith
+overflow_add-sum c = omega arith
 
-returns : tie.Need-returns
+returns-then-sum-full : tie.Need-returns-then-sum-full
 unfolding shares
-returns c = sym (min-eq_left (omega arith))
+returns-then-sum-full c = sym (min-eq_left (omega arith))
 
-returns_2 : tie.Need-returns-2
+returns-else-sum-full : tie.Need-returns-else-sum-full
 unfolding shares
-returns_2 c = sym (min-eq_right (omega arith))
+returns-else-sum-full c = sym (min-eq_right (omega arith))
 
-pub filled-spec : {M : Type 1} → statement M
-filled-spec = tie.close (tie.spec mul-full add-sum returns returns_2)
+pub filled_spec : {M : Type 1} → statement M
+filled_spec = tie.close (tie.spec overflow_mul-full overflow_add-sum returns-then-sum-full returns-else-sum-full)

@@ -13,21 +13,21 @@ use Rattle.bucket.proofs.tokens.Tie as tie
 high : (c : tie.Start) → c.args.ticks * c.args.rate ≤ 4294967295 * 4294967295
 high c = product_high {a = c.args.ticks} {b = c.args.rate} (search rules) (search rules)
 
-mul-result : tie.Need-overflow-mul-result
-mul-result c = omega (arith, high c)
+overflow_mul-result : tie.Need-overflow_mul-result
+overflow_mul-result c = omega (arith, high c)
 
-add-result : tie.Need-overflow-add-result
-add-result c = omega (arith, high c)
+overflow_add-result : tie.Need-overflow_add-result
+overflow_add-result c = omega (arith, high c)
 
-cast-result : tie.Need-overflow-cast-result
-cast-result c = search rules
+overflow_cast-result-4 : tie.Need-overflow_cast-result-4
+overflow_cast-result-4 c = search rules
 
-div-result : tie.Need-nonzero-div-result
-div-result c = search rules
+nonzero_div-result : tie.Need-nonzero_div-result
+nonzero_div-result c = search rules
 
 returns : tie.Need-returns
 unfolding tokens shares
 returns c = (refl, omega (arith, high c))
 
-pub tokens-spec : {M : Type 1} → statement M
-tokens-spec = tie.close (tie.spec mul-result add-result cast-result div-result returns)
+pub tokens_spec : {M : Type 1} → statement M
+tokens_spec = tie.close (tie.spec overflow_mul-result overflow_add-result overflow_cast-result-4 nonzero_div-result returns)
