@@ -1,3 +1,2 @@
 pub mod LineEnds
 pub mod LinesAhead
-pub mod ReaderAt

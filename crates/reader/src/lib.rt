@@ -1,6 +1,8 @@
 // A reader: it walks a lent text line by line and remembers its place. The work is done by functions on a slice and a number;
 // those over the struct are thin, and public since the paper names this form. `line_at` and `ended` have plain parameters:
 // whoever calls them needs no struct that holds a reference.
+#![tactic(auto)]
+
 ghost use Rattle.std.specs.Prelude.{◌≡◌};
 ghost use Rattle.reader.specs.LineSpans.{line_end, after_line, is_end, span_at};
 ghost use Rattle.reader.specs.ReaderMoved.{moved};

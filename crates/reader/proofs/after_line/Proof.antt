@@ -5,14 +5,14 @@ use Rattle.reader.proofs.LineEnds.{after_line_feed, after_line_last}
 use Rattle.reader.proofs.after_line.Statement.{statement}
 use Rattle.reader.proofs.after_line.Tie as tie
 
-add-result : tie.Need-overflow-add-result
-add-result c = search rules
+overflow_add-result : tie.Need-overflow_add-result
+overflow_add-result c = search rules
 
-returns : tie.Need-returns
-returns c = after_line_feed _ _ (omega arith)
+returns-then-end-text : tie.Need-returns-then-end-text
+returns-then-end-text c = after_line_feed _ _ (omega arith)
 
-returns_2 : tie.Need-returns-2
-returns_2 c = after_line_last _ _ (omega arith)
+returns-else-end-text : tie.Need-returns-else-end-text
+returns-else-end-text c = after_line_last _ _ (omega arith)
 
-pub after-line-spec : {M : Type 1} → statement M
-after-line-spec = tie.close (tie.spec add-result returns returns_2)
+pub after_line_spec : {M : Type 1} → statement M
+after_line_spec = tie.close (tie.spec overflow_add-result returns-then-end-text returns-else-end-text)

@@ -9,47 +9,47 @@ use Rattle.reader.proofs.LineEnds.{end_last, end_feed, end_other}
 use Rattle.reader.proofs.line_end.Statement.{statement}
 use Rattle.reader.proofs.line_end.Tie as tie
 
-abbrev invariant-loop : tie.invariant-loop
-invariant-loop text at end₀ end = line_end text end ≡ line_end text at
+abbrev invariant-loop-end : tie.invariant-loop-end
+invariant-loop-end text at end₀ end = line_end text end ≡ line_end text at
 
-abbrev decreases-loop : tie.decreases-loop
-decreases-loop text at end₀ end = length text - end
+abbrev decreases-loop-end : tie.decreases-loop-end
+decreases-loop-end text at end₀ end = length text - end
 
-loop-holds : tie.Need-loop-init invariant-loop decreases-loop
-loop-holds c = refl
+loop-end-init : tie.Need-loop-end-init invariant-loop-end decreases-loop-end
+loop-end-init c = refl
 
-shared-slice-read-if1 : tie.Need-shared-slice-read-if1 invariant-loop decreases-loop
-shared-slice-read-if1 c = search rules
+bounds-text-end : tie.Need-bounds-text-end invariant-loop-end decreases-loop-end
+bounds-text-end c = search rules
 
-returns : tie.Need-returns invariant-loop decreases-loop
-returns c =
+returns-then-text-end-eq-LINE_FEED : tie.Need-returns-then-text-end-eq-LINE_FEED invariant-loop-end decreases-loop-end
+returns-then-text-end-eq-LINE_FEED c =
     let at = c.before.before.before in
-    end_feed at.before.args.text.now at.loop.end (omega arith) c.if1.true ∙ at.loop.invariant
+    end_feed at.before.args.text.now at.loop-end.end (omega arith) c.if-text-end-eq-LINE_FEED.true ∙ at.loop-end.invariant
 
-add-end : tie.Need-overflow-add-end invariant-loop decreases-loop
-add-end c = search rules
+overflow_add-end : tie.Need-overflow_add-end invariant-loop-end decreases-loop-end
+overflow_add-end c = search rules
 
-loop-less : tie.Need-loop-smaller invariant-loop decreases-loop
-loop-less c = search rules
+loop-end-smaller : tie.Need-loop-end-smaller invariant-loop-end decreases-loop-end
+loop-end-smaller c = search rules
 
-loop-again : tie.Need-loop-preserved invariant-loop decreases-loop
-loop-again c =
+loop-end-preserved : tie.Need-loop-end-preserved invariant-loop-end decreases-loop-end
+loop-end-preserved c =
     let at = c.before.before.before in
-    sym (end_other at.before.args.text.now at.loop.end (omega arith) c.if1.false) ∙ at.loop.invariant
+    sym (end_other at.before.args.text.now at.loop-end.end (omega arith) c.if-text-end-eq-LINE_FEED.false) ∙ at.loop-end.invariant
 
-returns_2 : tie.Need-returns-2 invariant-loop decreases-loop
-returns_2 c = end_last c.before.before.args.text.now c.before.loop.end (omega arith) ∙ c.before.loop.invariant
+returns : tie.Need-returns invariant-loop-end decreases-loop-end
+returns c = end_last c.before.before.args.text.now c.before.loop-end.end (omega arith) ∙ c.before.loop-end.invariant
 
-pub line-end-spec : {M : Type 1} → statement M
-line-end-spec =
+pub line_end_spec : {M : Type 1} → statement M
+line_end_spec =
     tie.close
     (tie.spec
-    invariant-loop
-    decreases-loop
-    loop-holds
-    shared-slice-read-if1
-    returns
-    add-end
-    loop-less
-    loop-again
-    returns_2)
+    invariant-loop-end
+    decreases-loop-end
+    loop-end-init
+    bounds-text-end
+    returns-then-text-end-eq-LINE_FEED
+    overflow_add-end
+    loop-end-smaller
+    loop-end-preserved
+    returns)
