@@ -9,13 +9,13 @@ use Rattle.settings.proofs.burst_fits.Tie as tie
 within-requires : tie.Need-within-requires
 within-requires c κs = search rules
 
+returns-then-kind-eq-INDIFFERENT : tie.Need-returns-then-kind-eq-INDIFFERENT
+unfolding burst_fits indifferent_kind burst_limit
+returns-then-kind-eq-INDIFFERENT c = rw (eq-eqb _ _ c.before.if-kind-eq-INDIFFERENT.true) c.within.ensures
+
 returns : tie.Need-returns
 unfolding burst_fits indifferent_kind burst_limit
-returns c = rw (eq-eqb _ _ c.before.if1.true) c.within.ensures
+returns c = rw (ne_eqb _ _ c.if-kind-eq-INDIFFERENT.false)
 
-returns_2 : tie.Need-returns-2
-unfolding burst_fits indifferent_kind burst_limit
-returns_2 c = rw (ne_eqb _ _ c.if1.false)
-
-pub burst-fits-spec : {M : Type 1} → statement M
-burst-fits-spec = tie.close (tie.spec within-requires returns returns_2)
+pub burst_fits_spec : {M : Type 1} → statement M
+burst_fits_spec = tie.close (tie.spec within-requires returns-then-kind-eq-INDIFFERENT returns)

@@ -11,130 +11,130 @@ use Rattle.settings.proofs.ChangePromise.{change_refused_counts, change_retuned_
 use Rattle.settings.proofs.change.Statement.{statement}
 use Rattle.settings.proofs.change.Tie as tie
 
-change-number-requires : tie.Need-change-number-requires
-change-number-requires c κs =
-    let start = c.before in
+change_number-number-requires : tie.Need-change_number-number-requires
+change_number-number-requires c κs =
+    let start = c in
     let a = start.args in
     change_others a.control _ start.requires a.id a.kind a.rate a.burst
 
 refused-requires : tie.Need-refused-requires
 refused-requires c κs = search rules
 
-returns : tie.Need-returns
-returns c =
-    let start = c.before.before.before.before in
+returns-then-number-ne0 : tie.Need-returns-then-number-ne0
+returns-then-number-ne0 c =
+    let start = c in
     let a = start.args in
     in_place refl refl
     (change_refused_counts a.control _ start.requires a.id a.kind a.rate a.burst c.refused.result _
     c.refused.ensures)
     (change_refused a.control _ start.requires a.id a.kind a.rate a.burst c.refused.result _
-    c.refused.ensures (c.before.before.change-number.ensures _ _ _ _ _ start.requires) c.before.if1.true)
+    c.refused.ensures (c.change_number-number.ensures _ _ _ _ _ start.requires) c.if-number-ne0.true)
 
-keeps-kind-requires : tie.Need-keeps-kind-requires
-keeps-kind-requires c κs =
-    let start = c.before.before.before in
+keeps_kind-requires : tie.Need-keeps_kind-requires
+keeps_kind-requires c κs =
+    let start = c in
     let a = start.args in
     change_active a.control _ start.requires a.id a.kind a.rate a.burst
-    (sym (c.before.change-number.ensures _ _ _ _ _ start.requires) ∙ c.if1.false)
+    (sym (c.change_number-number.ensures _ _ _ _ _ start.requires) ∙ c.if-number-ne0.false)
 
 retune-requires : tie.Need-retune-requires
 retune-requires c κs =
-    let e = c.before.before.before in
-    let start = e.before.before.before in
+    let e = c in
+    let start = e in
     let a = start.args in
-    let none = sym (e.before.change-number.ensures _ _ _ _ _ start.requires) ∙ e.if1.false in
+    let none = sym (e.change_number-number.ensures _ _ _ _ _ start.requires) ∙ e.if-number-ne0.false in
     change_room a.control _ start.requires a.id a.kind a.rate a.burst none
 
 accepted-requires : tie.Need-accepted-requires
 accepted-requires c κs = search rules
 
-returns_2 : tie.Need-returns-2
-returns_2 c =
-    let p = c.before.retune in
-    let f = c.before.before.before in
-    let e = f.before.before in
-    let start = e.before.before.before in
+returns-then-keeps_kind : tie.Need-returns-then-keeps_kind
+returns-then-keeps_kind c =
+    let p = c.retune in
+    let f = c in
+    let e = f in
+    let start = e in
     let a = start.args in
-    let none = sym (e.before.change-number.ensures _ _ _ _ _ start.requires) ∙ e.if1.false in
-    let stays = sym f.before.keeps_kind.ensures ∙ f.if2.true in
+    let none = sym (e.change_number-number.ensures _ _ _ _ _ start.requires) ∙ e.if-number-ne0.false in
+    let stays = sym f.keeps_kind.ensures ∙ f.if-keeps_kind.true in
     let answered = rw p.ensures.0 at c.accepted.ensures in
     rw p.ensures.1
     (in_place refl refl
     (change_retuned_counts a.control _ start.requires a.id a.kind a.rate a.burst none stays c.accepted.result answered)
     (change_retuned a.control _ start.requires a.id a.kind a.rate a.burst none stays c.accepted.result answered))
 
-waiting-of-requires : tie.Need-waiting-of-requires
-waiting-of-requires c κs =
-    let e = c.before.before.before.before in
-    let start = e.before.before.before in
+waiting_of-requires : tie.Need-waiting_of-requires
+waiting_of-requires c κs =
+    let e = c in
+    let start = e in
     let a = start.args in
-    let none = sym (e.before.change-number.ensures _ _ _ _ _ start.requires) ∙ e.if1.false in
+    let none = sym (e.change_number-number.ensures _ _ _ _ _ start.requires) ∙ e.if-number-ne0.false in
     change_below a.control _ start.requires a.id a.kind a.rate a.burst none
 
 raise-requires : tie.Need-raise-requires
 raise-requires c κs =
-    let e = c.before.before.before.before.before in
-    let start = e.before.before.before in
+    let e = c in
+    let start = e in
     let a = start.args in
-    let none = sym (e.before.change-number.ensures _ _ _ _ _ start.requires) ∙ e.if1.false in
+    let none = sym (e.change_number-number.ensures _ _ _ _ _ start.requires) ∙ e.if-number-ne0.false in
     (change_below a.control _ start.requires a.id a.kind a.rate a.burst none, lit< tt)
 
-empty-requires : tie.Need-empty-requires
-empty-requires c κs =
-    let e = c.before.before.before.before.before.before.before.before in
-    let start = e.before.before.before in
+empty-bare-requires : tie.Need-empty-bare-requires
+empty-bare-requires c κs =
+    let e = c in
+    let start = e in
     let a = start.args in
-    let none = sym (e.before.change-number.ensures _ _ _ _ _ start.requires) ∙ e.if1.false in
+    let none = sym (e.change_number-number.ensures _ _ _ _ _ start.requires) ∙ e.if-number-ne0.false in
     change_ready a.control _ start.requires a.id a.kind a.rate a.burst none
 
-place-client-requires : tie.Need-place-client-requires
-place-client-requires c κs =
-    let q = c.before.empty in
-    let e = c.before.before.before.before.before.before.before.before.before.before in
-    let start = e.before.before.before in
+place_client-requires : tie.Need-place_client-requires
+place_client-requires c κs =
+    let q = c.empty-bare in
+    let e = c in
+    let start = e in
     let a = start.args in
-    let none = sym (e.before.change-number.ensures _ _ _ _ _ start.requires) ∙ e.if1.false in
+    let none = sym (e.change_number-number.ensures _ _ _ _ _ start.requires) ∙ e.if-number-ne0.false in
     change_room_bare a.control _ start.requires a.id a.kind a.rate a.burst
     none q.result _ _ q.ensures
 
 accepted-requires-2 : tie.Need-accepted-requires-2
 accepted-requires-2 c κs = search rules
 
-returns-3 : tie.Need-returns-3
+returns : tie.Need-returns
 unfolding column
-returns-3 c =
-    let p = c.before.place-client in
-    let q = c.before.before.before.empty in
-    let raised = c.before.before.before.before.before.before in
-    let f = raised.before.before.before.before in
-    let e = f.before.before in
-    let start = e.before.before.before in
+returns c =
+    let p = c.place_client in
+    let q = c.empty-bare in
+    let raised = c in
+    let f = raised in
+    let e = f in
+    let start = e in
     let a = start.args in
-    let none = sym (e.before.change-number.ensures _ _ _ _ _ start.requires) ∙ e.if1.false in
-    let differs = sym f.before.keeps_kind.ensures ∙ f.if2.false in
-    let entries = rw raised.before.waiting-of.ensures at (raised.raise.ensures count_emptied refl) in
+    let none = sym (e.change_number-number.ensures _ _ _ _ _ start.requires) ∙ e.if-number-ne0.false in
+    let differs = sym f.keeps_kind.ensures ∙ f.if-keeps_kind.false in
+    let entries = rw raised.waiting_of.ensures at (raised.raise.ensures count_emptied refl) in
     in_place refl refl
     (change_placed_counts a.control _ start.requires a.id a.kind a.rate a.burst none
-    q.result _ _ q.ensures p.result p.ensures.0 differs c.accepted2.result _ c.accepted2.ensures entries)
+    q.result _ _ q.ensures p.result p.ensures.0 differs c.accepted-2.result _ c.accepted-2.ensures entries)
     (rw p.ensures.1
     (meets_recounted entries.size
     (change_placed a.control _ start.requires a.id a.kind a.rate a.burst none
-    q.result _ _ q.ensures p.result p.ensures.0 differs c.accepted2.result c.accepted2.ensures)))
+    q.result _ _ q.ensures p.result p.ensures.0 differs c.accepted-2.result c.accepted-2.ensures)))
 
-pub change-spec : {M : Type 1} → statement M
-change-spec =
+pub change_spec : {M : Type 1} → statement M
+change_spec =
     tie.close
     (tie.spec
-    change-number-requires
+    change_number-number-requires
     refused-requires
-    returns
-    keeps-kind-requires
+    returns-then-number-ne0
+    keeps_kind-requires
     retune-requires
     accepted-requires
-    returns_2
-    waiting-of-requires
+    returns-then-keeps_kind
+    waiting_of-requires
     raise-requires
-    empty-requires
-    place-client-requires
+    empty-bare-requires
+    place_client-requires
     accepted-requires-2
-    returns-3)
+    returns)

@@ -15,70 +15,70 @@ use Rattle.settings.proofs.HeldRates.{others-held}
 use Rattle.settings.proofs.change_number.Statement.{statement}
 use Rattle.settings.proofs.change_number.Tie as tie
 
-active-number-requires : tie.Need-active-number-requires
-active-number-requires c κs = search rules
+active_number-number-requires : tie.Need-active_number-number-requires
+active_number-number-requires c κs = search rules
 
-returns : tie.Need-returns
+returns-then-number-ne0 : tie.Need-returns-then-number-ne0
 unfolding change_checks
-returns c stocks handles lengths links counts valid =
-    let a = c.before.before.args in
-    active_failed a.control a.id _ c.before.active-number.ensures
-    (tables a.terms.now stocks handles lengths links counts) _ c.if1.true
+returns-then-number-ne0 c stocks handles lengths links counts valid =
+    let a = c.args in
+    active_failed a.control a.id _ c.active_number-number.ensures
+    (tables a.terms.now stocks handles lengths links counts) _ c.if-number-ne0.true
 
 -- once the id is known to be active
-runs : (c : tie.Else1) → c.before.before.args.control.opened ≡ true
+runs : (c : tie.Else-number-ne0) → c.args.control.opened ≡ true
 runs c =
-    let a = c.before.before.args in
-    active_opened a.control a.id _ c.before.active-number.ensures c.if1.false
+    let a = c.args in
+    active_opened a.control a.id _ c.active_number-number.ensures c.if-number-ne0.false
 
-below : (c : tie.Else1) → c.before.before.args.id < ids
+below : (c : tie.Else-number-ne0) → c.args.id < ids
 below c =
-    let a = c.before.before.args in
-    active_below a.control a.id _ c.before.active-number.ensures c.if1.false
+    let a = c.args in
+    active_below a.control a.id _ c.active_number-number.ensures c.if-number-ne0.false
 
-add-others : tie.Need-overflow-add-others
-add-others c = search rules
+overflow_add-others : tie.Need-overflow_add-others
+overflow_add-others c = search rules
 
-cast-others : tie.Need-overflow-cast-others
-cast-others c = search rules
+overflow_cast-others : tie.Need-overflow_cast-others
+overflow_cast-others c = search rules
 
-mul-others : tie.Need-overflow-mul-others
-mul-others c = search rules
+offset_bounds-terms-id : tie.Need-offset_bounds-terms-id
+offset_bounds-terms-id c = search rules
 
-element-copy-out-others : tie.Need-element-copy-out-others
+bounds-terms-id : tie.Need-bounds-terms-id
 unfolding ids
-element-copy-out-others c = omega (arith, below c)
+bounds-terms-id c = omega (arith, below c.before)
 
-sub-others : tie.Need-overflow-sub-others
+overflow_sub-others : tie.Need-overflow_sub-others
 unfolding ids field
-sub-others c =
-    let e = c.before.before in
-    omega (arith, e.before.before.requires (runs e) (below e))
+overflow_sub-others c =
+    let e = c in
+    omega (arith, e.requires (runs c.before.before.before) (below c.before.before.before))
 
-terms-number-requires : tie.Need-terms-number-requires
-terms-number-requires c κs = search rules
+terms_number-requires : tie.Need-terms_number-requires
+terms_number-requires c κs = search rules
 
-returns_2 : tie.Need-returns-2
+returns : tie.Need-returns
 unfolding ids field change_checks state_of
-returns_2 c stocks handles lengths links counts valid =
-    let e = c.before.before.before in
-    let a = e.before.before.args in
+returns c stocks handles lengths links counts valid =
+    let e = c in
+    let a = e.args in
     let t = tables a.terms.now stocks handles lengths links counts in
-    c.terms-number.ensures
+    c.terms_number.ensures
     ∙ ap (λ (others : ℕ). first_failed (term_checks a.control.threshold others a.kind a.rate a.burst))
-    (others-held a.control t (valid (runs e)).shape a.id (below e))
-    ∙ sym (active_rest a.control a.id _ e.before.active-number.ensures e.if1.false t _)
+    (others-held a.control t (valid (runs c.before.before.before.before)).shape a.id (below c.before.before.before.before))
+    ∙ sym (active_rest a.control a.id _ e.active_number-number.ensures e.if-number-ne0.false t _)
 
-pub change-number-spec : {M : Type 1} → statement M
-change-number-spec =
+pub change_number_spec : {M : Type 1} → statement M
+change_number_spec =
     tie.close
     (tie.spec
-    active-number-requires
-    returns
-    add-others
-    cast-others
-    mul-others
-    element-copy-out-others
-    sub-others
-    terms-number-requires
-    returns_2)
+    active_number-number-requires
+    returns-then-number-ne0
+    overflow_add-others
+    overflow_cast-others
+    offset_bounds-terms-id
+    bounds-terms-id
+    overflow_sub-others
+    terms_number-requires
+    returns)

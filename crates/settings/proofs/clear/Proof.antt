@@ -6,37 +6,37 @@ use Rattle.settings.proofs.Remarks.{remarked_taken}
 use Rattle.settings.proofs.clear.Statement.{statement}
 use Rattle.settings.proofs.clear.Tie as tie
 
-add-stocks : tie.Need-overflow-add-stocks
+overflow_add-stocks : tie.Need-overflow_add-stocks
 unfolding ids
-add-stocks c = search rules
+overflow_add-stocks c = search rules
 
-cast-stocks : tie.Need-overflow-cast-stocks
+overflow_cast-stocks : tie.Need-overflow_cast-stocks
 unfolding ids
-cast-stocks c = search rules
+overflow_cast-stocks c = search rules
 
-mul-stocks : tie.Need-overflow-mul-stocks
+offset_bounds-stocks-id : tie.Need-offset_bounds-stocks-id
 unfolding ids
-mul-stocks c = search rules
+offset_bounds-stocks-id c = search rules
 
-element-write-stocks : tie.Need-element-write-stocks
+bounds-stocks-id : tie.Need-bounds-stocks-id
 unfolding ids
-element-write-stocks c = search rules
+bounds-stocks-id c = search rules
 
-add-stocks-2 : tie.Need-overflow-add-stocks-2
+overflow_add-stocks-2 : tie.Need-overflow_add-stocks-2
 unfolding ids
-add-stocks-2 c = search rules
+overflow_add-stocks-2 c = search rules
 
-cast-stocks-2 : tie.Need-overflow-cast-stocks-2
+overflow_cast-stocks-2 : tie.Need-overflow_cast-stocks-2
 unfolding ids
-cast-stocks-2 c = search rules
+overflow_cast-stocks-2 c = search rules
 
-mul-stocks-2 : tie.Need-overflow-mul-stocks-2
+offset_bounds-stocks-id-2 : tie.Need-offset_bounds-stocks-id-2
 unfolding ids
-mul-stocks-2 c = search rules
+offset_bounds-stocks-id-2 c = search rules
 
-element-write-stocks-2 : tie.Need-element-write-stocks-2
+bounds-stocks-id-2 : tie.Need-bounds-stocks-id-2
 unfolding ids
-element-write-stocks-2 c = search rules
+bounds-stocks-id-2 c = search rules
 
 unmark-requires : tie.Need-unmark-requires
 unmark-requires c κs = search rules
@@ -49,13 +49,13 @@ pub clear_spec : {M : Type 1} → statement M
 clear_spec =
     tie.close
     (tie.spec
-    add-stocks
-    cast-stocks
-    mul-stocks
-    element-write-stocks
-    add-stocks-2
-    cast-stocks-2
-    mul-stocks-2
-    element-write-stocks-2
+    overflow_add-stocks
+    overflow_cast-stocks
+    offset_bounds-stocks-id
+    bounds-stocks-id
+    overflow_add-stocks-2
+    overflow_cast-stocks-2
+    offset_bounds-stocks-id-2
+    bounds-stocks-id-2
     unmark-requires
     returns)

@@ -12,12 +12,12 @@ clear-requires c κs = search rules
 
 returns : tie.Need-returns
 returns c terms handles lengths counts shape =
-    let w = c.before.before.withdraw in
-    let start = c.before.before.before.before.before in
+    let w = c.withdraw in
+    let start = c in
     let a = start.args in
     rw c.clear.ensures.1
     (emptied_by a.control _ shape a.id start.requires.1 c.clear.result _ c.clear.ensures.0 w.ensures.0
     (w.ensures.1 shape.order shape.ordered (shape.placed a.id start.requires.1)))
 
-pub empty-spec : {M : Type 1} → statement M
-empty-spec = tie.close (tie.spec withdraw-requires clear-requires returns)
+pub empty_spec : {M : Type 1} → statement M
+empty_spec = tie.close (tie.spec withdraw-requires clear-requires returns)

@@ -6,13 +6,13 @@ use Rattle.definitions.proofs.Laws.Kinds.{active_private}
 use Rattle.settings.proofs.is_kind.Statement.{statement}
 use Rattle.settings.proofs.is_kind.Tie as tie
 
-returns : tie.Need-returns
+returns-then-kind-eq-INDIFFERENT : tie.Need-returns-then-kind-eq-INDIFFERENT
 unfolding kind_of indifferent_kind private_kind
-returns c = rw (eq-eqb _ _ c.if1.true)
+returns-then-kind-eq-INDIFFERENT c = rw (eq-eqb _ _ c.if-kind-eq-INDIFFERENT.true)
 
-returns_2 : tie.Need-returns-2
+returns-else-kind-eq-INDIFFERENT : tie.Need-returns-else-kind-eq-INDIFFERENT
 unfolding kind_of indifferent_kind private_kind
-returns_2 c = rw (ne_eqb _ _ c.if1.false) (active_private _)
+returns-else-kind-eq-INDIFFERENT c = rw (ne_eqb _ _ c.if-kind-eq-INDIFFERENT.false) (active_private _)
 
-pub is-kind-spec : {M : Type 1} → statement M
-is-kind-spec = tie.close (tie.spec returns returns_2)
+pub is_kind_spec : {M : Type 1} → statement M
+is_kind_spec = tie.close (tie.spec returns-then-kind-eq-INDIFFERENT returns-else-kind-eq-INDIFFERENT)

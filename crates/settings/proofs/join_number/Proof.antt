@@ -13,45 +13,45 @@ use Rattle.tables.specs.Numbers.{first_failed, refusal}
 use Rattle.settings.proofs.join_number.Statement.{statement}
 use Rattle.settings.proofs.join_number.Tie as tie
 
-returns : tie.Need-returns
+returns-then-not-control : tie.Need-returns-then-not-control
 unfolding refusal
-returns c t valid = rw (not-true c.before.before.args.control.opened c.if1.true)
+returns-then-not-control c t valid = rw (not-true c.before.before.args.control.opened c.if-not-control.true)
 
-returns_2 : tie.Need-returns-2
+returns-then-id-ge-IDS : tie.Need-returns-then-id-ge-IDS
 unfolding refusal first_failed join_checks ids
-returns_2 c t valid =
+returns-then-id-ge-IDS c t valid =
     let start = c.before.before.before in
-    simp (not-false start.args.control.opened c.before.if1.false, le-ltb start.args.id 64 c.if2.true)
+    simp (not-false start.args.control.opened c.before.if-not-control.false, le-ltb start.args.id 64 c.if-id-ge-IDS.true)
 
 active-requires : tie.Need-active-requires
 active-requires c κs = search rules
 
-returns-3 : tie.Need-returns-3
+returns-then-active : tie.Need-returns-then-active
 unfolding refusal first_failed join_checks ids state_of clients_of client_at
-returns-3 c t valid =
+returns-then-active c t valid =
     let e = c.before.before in
     let start = e.before.before.before in
     let alert : is_active (kind_at start.args.control start.args.id) ≡ true =
-    sym c.before.active.ensures ∙ c.if3.true in
-    simp (not-false start.args.control.opened e.before.if1.false, lt-ltb start.args.id 64 e.if2.false, alert)
+    sym c.before.active.ensures ∙ c.if-active.true in
+    simp (not-false start.args.control.opened e.before.if-not-control.false, lt-ltb start.args.id 64 e.if-id-ge-IDS.false, alert)
 
-terms-number-requires : tie.Need-terms-number-requires
-terms-number-requires c κs = search rules
+terms_number-requires : tie.Need-terms_number-requires
+terms_number-requires c κs = search rules
 
-returns-4 : tie.Need-returns-4
+returns : tie.Need-returns
 unfolding refusal first_failed join_checks ids state_of clients_of client_at
-returns-4 c t valid =
+returns c t valid =
     let e = c.before.before.before in
     let start = e.before.before.before in
     let a = start.args in
-    let runs = not-false a.control.opened e.before.if1.false in
+    let runs = not-false a.control.opened e.before.if-not-control.false in
     let dull : is_active (kind_at a.control a.id) ≡ false =
-    sym c.before.before.active.ensures ∙ c.before.if3.false in
+    sym c.before.before.active.ensures ∙ c.before.if-active.false in
     let held = (valid runs).shape.rates_held in
-    simp (runs, lt-ltb a.id 64 e.if2.false, dull)
-    (c.terms-number.ensures
+    simp (runs, lt-ltb a.id 64 e.if-id-ge-IDS.false, dull)
+    (c.terms_number.ensures
     ∙ ap (λ (n : ℕ). first_failed (term_checks a.control.threshold n a.kind a.rate a.burst)) held)
 
-pub join-number-spec : {M : Type 1} → statement M
-join-number-spec =
-    tie.close (tie.spec returns returns_2 active-requires returns-3 terms-number-requires returns-4)
+pub join_number_spec : {M : Type 1} → statement M
+join_number_spec =
+    tie.close (tie.spec returns-then-not-control returns-then-id-ge-IDS active-requires returns-then-active terms_number-requires returns)

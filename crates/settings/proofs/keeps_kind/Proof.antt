@@ -11,16 +11,16 @@ use Rattle.settings.proofs.keeps_kind.Tie as tie
 has-requires : tie.Need-has-requires
 has-requires c κs = search rules
 
-returns : tie.Need-returns
+returns-then-has : tie.Need-returns-then-has
 unfolding kind_at indifferent_kind
-returns c = rw (sym c.before.has.ensures ∙ c.if1.true) (sym (kind_of_indifferent _))
+returns-then-has c = rw (sym c.before.has.ensures ∙ c.if-has.true) (sym (kind_of_indifferent _))
 
-returns_2 : tie.Need-returns-2
+returns : tie.Need-returns
 unfolding private_kind
-returns_2 c =
+returns c =
     let start = c.before.before in
-    rw (other_kind start.args.control start.args.id (sym c.before.has.ensures ∙ c.if1.false) start.requires)
+    rw (other_kind start.args.control start.args.id (sym c.before.has.ensures ∙ c.if-has.false) start.requires)
     (sym (kind_of_private _))
 
-pub keeps-kind-spec : {M : Type 1} → statement M
-keeps-kind-spec = tie.close (tie.spec has-requires returns returns_2)
+pub keeps_kind_spec : {M : Type 1} → statement M
+keeps_kind_spec = tie.close (tie.spec has-requires returns-then-has returns)

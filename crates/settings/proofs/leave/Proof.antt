@@ -9,61 +9,61 @@ use Rattle.settings.proofs.LeavePromise.{leave_counts}
 use Rattle.settings.proofs.leave.Statement.{statement}
 use Rattle.settings.proofs.leave.Tie as tie
 
-active-number-requires : tie.Need-active-number-requires
-active-number-requires c κs = search rules
+active_number-number-requires : tie.Need-active_number-number-requires
+active_number-number-requires c κs = search rules
 
 refused-requires : tie.Need-refused-requires
 refused-requires c κs = search rules
 
-returns : tie.Need-returns
+returns-then-number-ne0 : tie.Need-returns-then-number-ne0
 unfolding leave_checks
-returns c =
-    let start = c.before.before.before in
+returns-then-number-ne0 c =
+    let start = c in
     let a = start.args in
     in_place refl refl
     (leave_refused_counts a.control _ start.requires a.id c.refused.result _ c.refused.ensures)
     (leave_refused a.control _ start.requires a.id c.refused.result _ c.refused.ensures
-    (c.before.before.active-number.ensures _) c.before.if1.true)
+    (c.active_number-number.ensures _) c.if-number-ne0.true)
 
-empty-requires : tie.Need-empty-requires
+empty-bare-requires : tie.Need-empty-bare-requires
 unfolding leave_checks
-empty-requires c κs =
-    let e = c.before.before in
-    let start = e.before.before in
-    let none = sym (e.before.active-number.ensures _) ∙ e.if1.false in
+empty-bare-requires c κs =
+    let e = c in
+    let start = e in
+    let none = sym (e.active_number-number.ensures _) ∙ e.if-number-ne0.false in
     leave_ready start.args.control _ start.requires start.args.id none
 
 clear-requires : tie.Need-clear-requires
 unfolding leave_checks
 clear-requires c κs =
-    let e = c.before.before.before.before in
-    let start = e.before.before in
-    let none = sym (e.before.active-number.ensures _) ∙ e.if1.false in
+    let e = c in
+    let start = e in
+    let none = sym (e.active_number-number.ensures _) ∙ e.if-number-ne0.false in
     leave_below start.args.control _ start.requires start.args.id none
 
-place-client-requires : tie.Need-place-client-requires
+place_client-requires : tie.Need-place_client-requires
 unfolding leave_checks
-place-client-requires c κs =
-    let q = c.before.before.before.empty in
-    let e = c.before.before.before.before.before.before in
-    let start = e.before.before in
-    let none = sym (e.before.active-number.ensures _) ∙ e.if1.false in
+place_client-requires c κs =
+    let q = c.empty-bare in
+    let e = c in
+    let start = e in
+    let none = sym (e.active_number-number.ensures _) ∙ e.if-number-ne0.false in
     leave_room start.args.control _ start.requires start.args.id none
     q.result _ _ q.ensures
 
 accepted-requires : tie.Need-accepted-requires
 accepted-requires c κs = search rules
 
-returns_2 : tie.Need-returns-2
+returns : tie.Need-returns
 unfolding leave_checks
-returns_2 c =
-    let p = c.before.place-client in
-    let gone = c.before.before.before in
-    let q = gone.before.before.empty in
-    let e = gone.before.before.before.before.before in
-    let start = e.before.before in
+returns c =
+    let p = c.place_client in
+    let gone = c in
+    let q = gone.empty-bare in
+    let e = gone in
+    let start = e in
     let a = start.args in
-    let none = sym (e.before.active-number.ensures _) ∙ e.if1.false in
+    let none = sym (e.active_number-number.ensures _) ∙ e.if-number-ne0.false in
     in_place refl refl
     (leave_counts a.control _ start.requires a.id none
     q.result _ _ q.ensures p.result p.ensures.0 c.accepted.result _ c.accepted.ensures gone.clear.ensures)
@@ -75,5 +75,5 @@ returns_2 c =
 pub leave_spec : {M : Type 1} → statement M
 leave_spec =
     tie.close
-    (tie.spec active-number-requires refused-requires returns empty-requires clear-requires place-client-requires accepted-requires
-    returns_2)
+    (tie.spec active_number-number-requires refused-requires returns-then-number-ne0 empty-bare-requires clear-requires place_client-requires accepted-requires
+    returns)

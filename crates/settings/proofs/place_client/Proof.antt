@@ -6,25 +6,25 @@ use Rattle.tables.specs.Tables.{field}
 use Rattle.settings.proofs.place_client.Statement.{statement}
 use Rattle.settings.proofs.place_client.Tie as tie
 
-add-old : tie.Need-overflow-add-old
+overflow_add-old : tie.Need-overflow_add-old
 unfolding ids
-add-old c = search rules
+overflow_add-old c = search rules
 
-cast-old : tie.Need-overflow-cast-old
+overflow_cast-old : tie.Need-overflow_cast-old
 unfolding ids
-cast-old c = search rules
+overflow_cast-old c = search rules
 
-mul-old : tie.Need-overflow-mul-old
+offset_bounds-terms-id : tie.Need-offset_bounds-terms-id
 unfolding ids
-mul-old c = search rules
+offset_bounds-terms-id c = search rules
 
-element-copy-out-old : tie.Need-element-copy-out-old
+bounds-terms-id : tie.Need-bounds-terms-id
 unfolding ids
-element-copy-out-old c = search rules
+bounds-terms-id c = search rules
 
-set-terms-requires : tie.Need-set-terms-requires
+set_terms-requires : tie.Need-set_terms-requires
 unfolding ids
-set-terms-requires c κs = search rules
+set_terms-requires c κs = search rules
 
 trade-requires : tie.Need-trade-requires
 unfolding ids field
@@ -37,17 +37,17 @@ recast-requires c κs = search rules
 returns : tie.Need-returns
 unfolding ids field
 returns c =
-    (rw c.before.trade.ensures at c.recast.ensures, c.before.before.set-terms.ensures)
+    (rw c.before.trade.ensures at c.recast.ensures, c.before.before.set_terms.ensures)
 
-pub place-client-spec : {M : Type 1} → statement M
-place-client-spec =
+pub place_client_spec : {M : Type 1} → statement M
+place_client_spec =
     tie.close
     (tie.spec
-    add-old
-    cast-old
-    mul-old
-    element-copy-out-old
-    set-terms-requires
+    overflow_add-old
+    overflow_cast-old
+    offset_bounds-terms-id
+    bounds-terms-id
+    set_terms-requires
     trade-requires
     recast-requires
     returns)

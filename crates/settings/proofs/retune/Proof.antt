@@ -6,42 +6,42 @@ use Rattle.tables.specs.Tables.{field}
 use Rattle.settings.proofs.retune.Statement.{statement}
 use Rattle.settings.proofs.retune.Tie as tie
 
-add-old : tie.Need-overflow-add-old
-add-old c = search rules
+overflow_add-old : tie.Need-overflow_add-old
+overflow_add-old c = search rules
 
-cast-old : tie.Need-overflow-cast-old
-cast-old c = search rules
+overflow_cast-old : tie.Need-overflow_cast-old
+overflow_cast-old c = search rules
 
-mul-old : tie.Need-overflow-mul-old
-mul-old c = search rules
+offset_bounds-terms-id : tie.Need-offset_bounds-terms-id
+offset_bounds-terms-id c = search rules
 
-element-copy-out-old : tie.Need-element-copy-out-old
+bounds-terms-id : tie.Need-bounds-terms-id
 unfolding ids
-element-copy-out-old c = search rules
+bounds-terms-id c = search rules
 
-add-least : tie.Need-overflow-add-least
+overflow_add-id : tie.Need-overflow_add-id
 unfolding ids
-add-least c = search rules
+overflow_add-id c = search rules
 
-cast-least : tie.Need-overflow-cast-least
-cast-least c = search rules
+overflow_cast-id : tie.Need-overflow_cast-id
+overflow_cast-id c = search rules
 
-mul-least : tie.Need-overflow-mul-least
-mul-least c = search rules
+offset_bounds-terms-id-2 : tie.Need-offset_bounds-terms-id-2
+offset_bounds-terms-id-2 c = search rules
 
-element-copy-out-least : tie.Need-element-copy-out-least
+bounds-terms-id-2 : tie.Need-bounds-terms-id-2
 unfolding ids
-element-copy-out-least c = search rules
+bounds-terms-id-2 c = search rules
 
-mul-least-2 : tie.Need-overflow-mul-least-2
+overflow_mul-burst : tie.Need-overflow_mul-burst
 unfolding burst_limit
-mul-least-2 c = search rules
+overflow_mul-burst c = search rules
 
-least-requires : tie.Need-least-requires
-least-requires c κs = search rules
+least-level-requires : tie.Need-least-level-requires
+least-level-requires c κs = search rules
 
-set-terms-requires : tie.Need-set-terms-requires
-set-terms-requires c κs = search rules
+set_terms-requires : tie.Need-set_terms-requires
+set_terms-requires c κs = search rules
 
 trade-requires : tie.Need-trade-requires
 unfolding ids field
@@ -49,22 +49,22 @@ trade-requires c κs = search rules
 
 returns : tie.Need-returns
 unfolding ids shares field
-returns c = (c.trade.ensures, c.before.set-terms.ensures ∙ rw c.before.before.before.least.ensures)
+returns c = (c.trade.ensures, c.before.set_terms.ensures ∙ rw c.before.before.before.least-level.ensures)
 
-pub retune-spec : {M : Type 1} → statement M
-retune-spec =
+pub retune_spec : {M : Type 1} → statement M
+retune_spec =
     tie.close
     (tie.spec
-    add-old
-    cast-old
-    mul-old
-    element-copy-out-old
-    add-least
-    cast-least
-    mul-least
-    element-copy-out-least
-    mul-least-2
-    least-requires
-    set-terms-requires
+    overflow_add-old
+    overflow_cast-old
+    offset_bounds-terms-id
+    bounds-terms-id
+    overflow_add-id
+    overflow_cast-id
+    offset_bounds-terms-id-2
+    bounds-terms-id-2
+    overflow_mul-burst
+    least-level-requires
+    set_terms-requires
     trade-requires
     returns)

@@ -7,14 +7,14 @@ use Rattle.settings.proofs.set_mark.Tie as tie
 mark-requires : tie.Need-mark-requires
 mark-requires c κs = search rules
 
-returns : tie.Need-returns
-returns c = rw c.before.if1.true (remarked_set _ _ _ c.before.before.requires c.mark.ensures)
+returns-then-on : tie.Need-returns-then-on
+returns-then-on c = rw c.before.if-on.true (remarked_set _ _ _ c.before.before.requires c.mark.ensures)
 
 unmark-requires : tie.Need-unmark-requires
 unmark-requires c κs = search rules
 
-returns_2 : tie.Need-returns-2
-returns_2 c = rw c.before.if1.false (remarked_taken _ _ _ c.unmark.ensures)
+returns : tie.Need-returns
+returns c = rw c.before.if-on.false (remarked_taken _ _ _ c.unmark.ensures)
 
-pub set-mark-spec : {M : Type 1} → statement M
-set-mark-spec = tie.close (tie.spec mark-requires returns unmark-requires returns_2)
+pub set_mark_spec : {M : Type 1} → statement M
+set_mark_spec = tie.close (tie.spec mark-requires returns-then-on unmark-requires returns)

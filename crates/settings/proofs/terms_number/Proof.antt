@@ -11,37 +11,37 @@ use Rattle.tables.specs.Numbers.{first_failed}
 use Rattle.settings.proofs.terms_number.Statement.{statement}
 use Rattle.settings.proofs.terms_number.Tie as tie
 
-is-kind-requires : tie.Need-is-kind-requires
-is-kind-requires c κs = search rules
+is_kind-requires : tie.Need-is_kind-requires
+is_kind-requires c κs = search rules
 
-returns : tie.Need-returns
+returns-then-not-is_kind : tie.Need-returns-then-not-is_kind
 unfolding first_failed term_checks shares
-returns c = simp (sym c.before.is-kind.ensures ∙ not-true _ c.if1.true)
+returns-then-not-is_kind c = simp (sym c.before.is_kind.ensures ∙ not-true _ c.if-not-is_kind.true-raw)
 
 within-requires : tie.Need-within-requires
 within-requires c κs = search rules
 
-returns_2 : tie.Need-returns-2
+returns-then-not-within : tie.Need-returns-then-not-within
 unfolding first_failed term_checks shares
-returns_2 c =
+returns-then-not-within c =
     let e = c.before.before in
     simp (
-      sym e.before.is-kind.ensures ∙ not-false _ e.if1.false,
-      sym c.before.within.ensures ∙ not-true _ c.if2.true,
+      sym e.before.is_kind.ensures ∙ not-false _ e.if-not-is_kind.false-raw,
+      sym c.before.within.ensures ∙ not-true _ c.if-not-within.true-raw,
     )
 
-burst-fits-requires : tie.Need-burst-fits-requires
-burst-fits-requires c κs = search rules
+burst_fits-requires : tie.Need-burst_fits-requires
+burst_fits-requires c κs = search rules
 
-returns-3 : tie.Need-returns-3
+returns-then-not-burst_fits : tie.Need-returns-then-not-burst_fits
 unfolding first_failed term_checks shares
-returns-3 c =
+returns-then-not-burst_fits c =
     let f = c.before.before in
     let e = f.before.before in
     simp (
-      sym e.before.is-kind.ensures ∙ not-false _ e.if1.false,
-      sym f.before.within.ensures ∙ not-false _ f.if2.false,
-      sym c.before.burst-fits.ensures ∙ not-true _ c.if3.true,
+      sym e.before.is_kind.ensures ∙ not-false _ e.if-not-is_kind.false-raw,
+      sym f.before.within.ensures ∙ not-false _ f.if-not-within.false-raw,
+      sym c.before.burst_fits.ensures ∙ not-true _ c.if-not-burst_fits.true-raw,
     )
 
 wide-requires : tie.Need-wide-requires
@@ -53,12 +53,12 @@ wide-requires-2 c κs = search rules
 wide-requires-3 : tie.Need-wide-requires-3
 wide-requires-3 c κs = search rules
 
-add-if4 : tie.Need-overflow-add-if4
-add-if4 c = omega (arith, c.wide3.ensures, c.before.wide2.ensures)
+overflow_add-wide : tie.Need-overflow_add-wide
+overflow_add-wide c = omega (arith, c.wide-3.ensures, c.before.wide-2.ensures)
 
-returns-4 : tie.Need-returns-4
+returns-then-wide : tie.Need-returns-then-wide
 unfolding first_failed term_checks shares
-returns-4 c =
+returns-then-wide c =
     let g = c.before.before.before.before in
     let f = g.before.before in
     let e = f.before.before in
@@ -66,21 +66,21 @@ returns-4 c =
     let past : a.threshold < a.others + a.rate =
     omega (
       arith,
-      c.if4.true,
-      c.before.wide3.ensures,
-      c.before.before.wide2.ensures,
+      c.if-wide.true,
+      c.before.wide-3.ensures,
+      c.before.before.wide-2.ensures,
       c.before.before.before.wide.ensures,
     ) in
     simp (
-      sym e.before.is-kind.ensures ∙ not-false _ e.if1.false,
-      sym f.before.within.ensures ∙ not-false _ f.if2.false,
-      sym g.before.burst-fits.ensures ∙ not-false _ g.if3.false,
+      sym e.before.is_kind.ensures ∙ not-false _ e.if-not-is_kind.false-raw,
+      sym f.before.within.ensures ∙ not-false _ f.if-not-within.false-raw,
+      sym g.before.burst_fits.ensures ∙ not-false _ g.if-not-burst_fits.false-raw,
       lt-leb _ _ past,
     )
 
-returns-5 : tie.Need-returns-5
+returns : tie.Need-returns
 unfolding first_failed term_checks shares
-returns-5 c =
+returns c =
     let g = c.before.before.before.before in
     let f = g.before.before in
     let e = f.before.before in
@@ -88,20 +88,20 @@ returns-5 c =
     let fits : a.others + a.rate ≤ a.threshold =
     omega (
       arith,
-      c.if4.false,
-      c.before.wide3.ensures,
-      c.before.before.wide2.ensures,
+      c.if-wide.false,
+      c.before.wide-3.ensures,
+      c.before.before.wide-2.ensures,
       c.before.before.before.wide.ensures,
     ) in
     simp (
-      sym e.before.is-kind.ensures ∙ not-false _ e.if1.false,
-      sym f.before.within.ensures ∙ not-false _ f.if2.false,
-      sym g.before.burst-fits.ensures ∙ not-false _ g.if3.false,
+      sym e.before.is_kind.ensures ∙ not-false _ e.if-not-is_kind.false-raw,
+      sym f.before.within.ensures ∙ not-false _ f.if-not-within.false-raw,
+      sym g.before.burst_fits.ensures ∙ not-false _ g.if-not-burst_fits.false-raw,
       le-leb _ _ fits,
     )
 
-pub terms-number-spec : {M : Type 1} → statement M
-terms-number-spec =
+pub terms_number_spec : {M : Type 1} → statement M
+terms_number_spec =
     tie.close
-    (tie.spec is-kind-requires returns within-requires returns_2 burst-fits-requires returns-3 wide-requires wide-requires-2
-    wide-requires-3 add-if4 returns-4 returns-5)
+    (tie.spec is_kind-requires returns-then-not-is_kind within-requires returns-then-not-within burst_fits-requires returns-then-not-burst_fits wide-requires wide-requires-2
+    wide-requires-3 overflow_add-wide returns-then-wide returns)

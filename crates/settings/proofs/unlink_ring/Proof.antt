@@ -14,68 +14,68 @@ use Rattle.settings.proofs.Withdrawing.{Withdrawing, withdrawing_start, withdraw
 use Rattle.settings.proofs.unlink_ring.Statement.{statement}
 use Rattle.settings.proofs.unlink_ring.Tie as tie
 
-abbrev invariant-loop : tie.invariant-loop
-invariant-loop links₀ id head count at₀ left₀ links at left =
+abbrev invariant-loop-left : tie.invariant-loop-left
+invariant-loop-left links₀ id head count at₀ left₀ links at left =
     (at + left ≤ 2 * places)
     × Sound links
     × ((order : List ℕ) → Ordered links₀ order → places_of id order ≡ ring id head count → Withdrawing links id at left order)
 
-abbrev decreases-loop : tie.decreases-loop
-decreases-loop links₀ id head count at₀ left₀ links at left = left
+abbrev decreases-loop-left : tie.decreases-loop-left
+decreases-loop-left links₀ id head count at₀ left₀ links at left = left
 
-loop-holds : tie.Need-loop-init invariant-loop decreases-loop
+loop-left-init : tie.Need-loop-left-init invariant-loop-left decreases-loop-left
 unfolding places
-loop-holds c = (omega arith, c.requires.0, withdrawing_start _ _ _ _)
+loop-left-init c = (omega arith, c.requires.0, withdrawing_start _ _ _ _)
 
-mul-unlink : tie.Need-overflow-mul-unlink invariant-loop decreases-loop
+overflow_mul-id : tie.Need-overflow_mul-id invariant-loop-left decreases-loop-left
 unfolding ids
-mul-unlink c = search rules
+overflow_mul-id c = search rules
 
-add-unlink : tie.Need-overflow-add-unlink invariant-loop decreases-loop
+overflow_add-id : tie.Need-overflow_add-id invariant-loop-left decreases-loop-left
 unfolding ids
-add-unlink c = search rules
+overflow_add-id c = search rules
 
-unlink-requires : tie.Need-unlink-requires invariant-loop decreases-loop
+unlink-requires : tie.Need-unlink-requires invariant-loop-left decreases-loop-left
 unlink-requires c κs = search rules
 
-add_at : tie.Need-overflow-add-at invariant-loop decreases-loop
+overflow_add-at : tie.Need-overflow_add-at invariant-loop-left decreases-loop-left
 unfolding places
-add_at c = search rules
+overflow_add-at c = search rules
 
-sub-left : tie.Need-overflow-sub-left invariant-loop decreases-loop
-sub-left c = search rules
+overflow_sub-left : tie.Need-overflow_sub-left invariant-loop-left decreases-loop-left
+overflow_sub-left c = search rules
 
-loop-less : tie.Need-loop-smaller invariant-loop decreases-loop
-loop-less c = search rules
+loop-left-smaller : tie.Need-loop-left-smaller invariant-loop-left decreases-loop-left
+loop-left-smaller c = search rules
 
-loop-again : tie.Need-loop-preserved invariant-loop decreases-loop
+loop-left-preserved : tie.Need-loop-left-preserved invariant-loop-left decreases-loop-left
 unfolding places
-loop-again c =
-    let now = c.before.before.before.loop in
-    let some : now.left ≡ suc (now.left - 1) = omega (arith, c.before.before.loop-test.true) in (
+loop-left-preserved c =
+    let now = c.before.before.before.loop-left in
+    let some : now.left ≡ suc (now.left - 1) = omega (arith, c.before.before.loop-left-test.true) in (
       omega arith,
       c.unlink.ensures.0,
       λ order o e. rw add-one (withdrawing_step _ _ _ _ _ _ c.unlink.ensures.1 (rw some at (now.invariant.2 order o e))),
     )
 
-returns : tie.Need-returns invariant-loop decreases-loop
+returns : tie.Need-returns invariant-loop-left decreases-loop-left
 returns c =
-    let now = c.before.loop in
+    let now = c.before.loop-left in
     let none : now.left ≡ 0 = omega arith in
     (now.invariant.1, λ order o e. withdrawing_done _ _ _ _ (rw none at (now.invariant.2 order o e)))
 
-pub unlink-ring-spec : {M : Type 1} → statement M
-unlink-ring-spec =
+pub unlink_ring_spec : {M : Type 1} → statement M
+unlink_ring_spec =
     tie.close
     (tie.spec
-    invariant-loop
-    decreases-loop
-    loop-holds
-    mul-unlink
-    add-unlink
+    invariant-loop-left
+    decreases-loop-left
+    loop-left-init
+    overflow_mul-id
+    overflow_add-id
     unlink-requires
-    add_at
-    sub-left
-    loop-less
-    loop-again
+    overflow_add-at
+    overflow_sub-left
+    loop-left-smaller
+    loop-left-preserved
     returns)

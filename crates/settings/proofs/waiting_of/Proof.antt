@@ -5,19 +5,19 @@ use Rattle.tables.specs.Tables.{field}
 use Rattle.settings.proofs.waiting_of.Statement.{statement}
 use Rattle.settings.proofs.waiting_of.Tie as tie
 
-add_wide : tie.Need-overflow-add-wide
+overflow_add-id : tie.Need-overflow_add-id
 unfolding ids
-add_wide c = search rules
+overflow_add-id c = search rules
 
-cast-wide : tie.Need-overflow-cast-wide
-cast-wide c = search rules
+overflow_cast-id : tie.Need-overflow_cast-id
+overflow_cast-id c = search rules
 
-mul_wide : tie.Need-overflow-mul-wide
-mul_wide c = search rules
+offset_bounds-stocks-id : tie.Need-offset_bounds-stocks-id
+offset_bounds-stocks-id c = search rules
 
-element-copy-out-wide : tie.Need-element-copy-out-wide
+bounds-stocks-id : tie.Need-bounds-stocks-id
 unfolding ids
-element-copy-out-wide c = search rules
+bounds-stocks-id c = search rules
 
 wide-requires : tie.Need-wide-requires
 wide-requires c κs = search rules
@@ -26,5 +26,5 @@ returns : tie.Need-returns
 unfolding ids field
 returns c = c.wide.ensures.0
 
-pub waiting-of-spec : {M : Type 1} → statement M
-waiting-of-spec = tie.close (tie.spec add_wide cast-wide mul_wide element-copy-out-wide wide-requires returns)
+pub waiting_of_spec : {M : Type 1} → statement M
+waiting_of_spec = tie.close (tie.spec overflow_add-id overflow_cast-id offset_bounds-stocks-id bounds-stocks-id wide-requires returns)

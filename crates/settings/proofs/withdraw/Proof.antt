@@ -14,67 +14,67 @@ use Rattle.settings.proofs.withdraw.Tie as tie
 has-requires : tie.Need-has-requires
 has-requires c κs = search rules
 
-add-unlink-ring : tie.Need-overflow-add-unlink-ring
+overflow_add-id : tie.Need-overflow_add-id
 unfolding ids
-add-unlink-ring c = search rules
+overflow_add-id c = search rules
 
-cast-unlink-ring : tie.Need-overflow-cast-unlink-ring
-cast-unlink-ring c = search rules
+overflow_cast-id : tie.Need-overflow_cast-id
+overflow_cast-id c = search rules
 
-mul-unlink-ring : tie.Need-overflow-mul-unlink-ring
-mul-unlink-ring c = search rules
+offset_bounds-stocks-id : tie.Need-offset_bounds-stocks-id
+offset_bounds-stocks-id c = search rules
 
-element-copy-out-unlink-ring : tie.Need-element-copy-out-unlink-ring
+bounds-stocks-id : tie.Need-bounds-stocks-id
 unfolding ids
-element-copy-out-unlink-ring c = search rules
+bounds-stocks-id c = search rules
 
-add-unlink-ring-2 : tie.Need-overflow-add-unlink-ring-2
+overflow_add-id-then-has : tie.Need-overflow_add-id-then-has
 unfolding ids
-add-unlink-ring-2 c = search rules
+overflow_add-id-then-has c = search rules
 
-cast-unlink-ring-2 : tie.Need-overflow-cast-unlink-ring-2
-cast-unlink-ring-2 c = search rules
+overflow_cast-id-then-has : tie.Need-overflow_cast-id-then-has
+overflow_cast-id-then-has c = search rules
 
-mul-unlink-ring-2 : tie.Need-overflow-mul-unlink-ring-2
-mul-unlink-ring-2 c = search rules
+offset_bounds-stocks-id-then-has : tie.Need-offset_bounds-stocks-id-then-has
+offset_bounds-stocks-id-then-has c = search rules
 
-element-copy-out-unlink-ring-2 : tie.Need-element-copy-out-unlink-ring-2
+bounds-stocks-id-then-has : tie.Need-bounds-stocks-id-then-has
 unfolding ids
-element-copy-out-unlink-ring-2 c = search rules
+bounds-stocks-id-then-has c = search rules
 
-unlink-ring-requires : tie.Need-unlink-ring-requires
+unlink_ring-requires : tie.Need-unlink_ring-requires
 unfolding ids field
-unlink-ring-requires c κs = search rules
+unlink_ring-requires c κs = search rules
 
-returns : tie.Need-returns
+returns-then-has : tie.Need-returns-then-has
 unfolding ids field
-returns c =
+returns-then-has c =
     let e = c.before.before.before.before in
     let a = e.before.before.args in
     let plain : is_indifferent (kind_at a.control a.id) ≡ true =
-    kind_indifferent a.control a.id ∙ sym e.before.has.ensures ∙ e.if1.true in
-    (c.unlink-ring.ensures.0, λ order o p. c.unlink-ring.ensures.1 order o (rw plain at p))
+    kind_indifferent a.control a.id ∙ sym e.before.has.ensures ∙ e.if-has.true in
+    (c.unlink_ring.ensures.0, λ order o p. c.unlink_ring.ensures.1 order o (rw plain at p))
 
-returns_2 : tie.Need-returns-2
-returns_2 c =
+returns-else-has : tie.Need-returns-else-has
+returns-else-has c =
     let a = c.before.before.args in
     let dull : is_indifferent (kind_at a.control a.id) ≡ false =
-    kind_indifferent a.control a.id ∙ sym c.before.has.ensures ∙ c.if1.false in
+    kind_indifferent a.control a.id ∙ sym c.before.has.ensures ∙ c.if-has.false in
     (c.before.before.requires.0, λ order o p. withdrawn_none _ _ order o (rw dull at p))
 
-pub withdraw-spec : {M : Type 1} → statement M
-withdraw-spec =
+pub withdraw_spec : {M : Type 1} → statement M
+withdraw_spec =
     tie.close
     (tie.spec
     has-requires
-    add-unlink-ring
-    cast-unlink-ring
-    mul-unlink-ring
-    element-copy-out-unlink-ring
-    add-unlink-ring-2
-    cast-unlink-ring-2
-    mul-unlink-ring-2
-    element-copy-out-unlink-ring-2
-    unlink-ring-requires
-    returns
-    returns_2)
+    overflow_add-id
+    overflow_cast-id
+    offset_bounds-stocks-id
+    bounds-stocks-id
+    overflow_add-id-then-has
+    overflow_cast-id-then-has
+    offset_bounds-stocks-id-then-has
+    bounds-stocks-id-then-has
+    unlink_ring-requires
+    returns-then-has
+    returns-else-has)

@@ -4,13 +4,13 @@ use Rattle.definitions.specs.Checks.{within}
 use Rattle.settings.proofs.within.Statement.{statement}
 use Rattle.settings.proofs.within.Tie as tie
 
-returns : tie.Need-returns
+returns-then-low-x : tie.Need-returns-then-low-x
 unfolding within
-returns c = rw (le-leb _ _ c.if1.true)
+returns-then-low-x c = rw (le-leb _ _ c.if-low-x.true)
 
-returns_2 : tie.Need-returns-2
+returns-else-low-x : tie.Need-returns-else-low-x
 unfolding within
-returns_2 c = rw (lt-leb _ _ c.if1.false)
+returns-else-low-x c = rw (lt-leb _ _ c.if-low-x.false)
 
-pub within-spec : {M : Type 1} → statement M
-within-spec = tie.close (tie.spec returns returns_2)
+pub within_spec : {M : Type 1} → statement M
+within_spec = tie.close (tie.spec returns-then-low-x returns-else-low-x)
