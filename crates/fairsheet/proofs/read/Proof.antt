@@ -12,7 +12,7 @@ line-at-requires : tie.Need-line-at-requires
 line-at-requires c κs = search rules
 
 slice-aggregate-threshold : tie.Need-slice-aggregate-threshold
-slice-aggregate-threshold c = sym (length-take-le _ _ (span_within _ _ _ c.before.line_at_lem.ensures (omega arith)))
+slice-aggregate-threshold c = sym (length-take-le _ _ (span_within _ _ _ c.before.line_at.ensures (omega arith)))
 
 threshold-requires : tie.Need-threshold-requires
 threshold-requires c κs = search rules
@@ -20,7 +20,7 @@ threshold-requires c κs = search rules
 returns : tie.Need-returns
 returns c =
     let read = c.before.before in
-    sheet_unformed _ _ read.before.before.line_at_lem.ensures _ read.threshold.ensures c.if1.true
+    sheet_unformed _ _ read.before.before.line_at.ensures _ read.threshold.ensures c.if1.true
 
 read-demands-requires : tie.Need-read-demands-requires
 read-demands-requires c κs = search rules
@@ -36,7 +36,7 @@ returns_2 c =
     let call = c.before.before.before.before in
     let test = call.before.before.before in
     let read = test.before.before in
-    sheet_read _ _ read.before.before.line_at_lem.ensures _ read.threshold.ensures test.if1.false
+    sheet_read _ _ read.before.before.line_at.ensures _ read.threshold.ensures test.if1.false
     call.read-demands.ensures
 
 pub read_spec : {M : Type 1} → statement M

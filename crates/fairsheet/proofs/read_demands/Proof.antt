@@ -21,8 +21,8 @@ decreases-loop text from first listed₀ demands₀ refused₀ count₀ at₀ li
 -- the line that is read, and the place behind it
 passed : (c : tie.After-line-at invariant-loop decreases-loop)
     → let loop = c.before.before.loop in
-    Passed c.before.before.before.before.before.before.args.text.now loop.at c.line_at_lem.result.next
-passed c = span_passed _ _ _ c.line_at_lem.ensures c.before.loop-test.true
+    Passed c.before.before.before.before.before.before.args.text.now loop.at c.line_at.result.next
+passed c = span_passed _ _ _ c.line_at.ensures c.before.loop-test.true
 
 loop-holds : tie.Need-loop-init invariant-loop decreases-loop
 loop-holds c = (refl, refl, rows_none _ _ _ _ _)

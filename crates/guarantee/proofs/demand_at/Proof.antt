@@ -6,47 +6,47 @@ use Rattle.guarantee.specs.Demands.{demand_at}
 use Rattle.guarantee.proofs.demand_at.Statement.{statement}
 use Rattle.guarantee.proofs.demand_at.Tie as tie
 
-add-rate : tie.Need-overflow-add-rate
+overflow_add-rate : tie.Need-overflow_add-rate
 unfolding ids
-add-rate c = search rules
+overflow_add-rate c = search rules
 
-cast-rate : tie.Need-overflow-cast-rate
-cast-rate c = search rules
+overflow_cast-rate : tie.Need-overflow_cast-rate
+overflow_cast-rate c = search rules
 
-mul-rate : tie.Need-overflow-mul-rate
-mul-rate c = search rules
+offset_bounds-terms-id : tie.Need-offset_bounds-terms-id
+offset_bounds-terms-id c = search rules
 
-element-copy-out-rate : tie.Need-element-copy-out-rate
+bounds-terms-id : tie.Need-bounds-terms-id
 unfolding ids
-element-copy-out-rate c = search rules
+bounds-terms-id c = search rules
 
-add-level : tie.Need-overflow-add-level
+overflow_add-level : tie.Need-overflow_add-level
 unfolding ids
-add-level c = search rules
+overflow_add-level c = search rules
 
-cast-level : tie.Need-overflow-cast-level
-cast-level c = search rules
+overflow_cast-level : tie.Need-overflow_cast-level
+overflow_cast-level c = search rules
 
-mul-level : tie.Need-overflow-mul-level
-mul-level c = search rules
+offset_bounds-terms-id-2 : tie.Need-offset_bounds-terms-id-2
+offset_bounds-terms-id-2 c = search rules
 
-element-copy-out-level : tie.Need-element-copy-out-level
+bounds-terms-id-2 : tie.Need-bounds-terms-id-2
 unfolding ids
-element-copy-out-level c = search rules
+bounds-terms-id-2 c = search rules
 
-add-waiting : tie.Need-overflow-add-waiting
+overflow_add-waiting : tie.Need-overflow_add-waiting
 unfolding ids
-add-waiting c = search rules
+overflow_add-waiting c = search rules
 
-cast-waiting : tie.Need-overflow-cast-waiting
-cast-waiting c = search rules
+overflow_cast-waiting : tie.Need-overflow_cast-waiting
+overflow_cast-waiting c = search rules
 
-mul-waiting : tie.Need-overflow-mul-waiting
-mul-waiting c = search rules
+offset_bounds-stocks-id : tie.Need-offset_bounds-stocks-id
+offset_bounds-stocks-id c = search rules
 
-element-copy-out-waiting : tie.Need-element-copy-out-waiting
+bounds-stocks-id : tie.Need-bounds-stocks-id
 unfolding ids
-element-copy-out-waiting c = search rules
+bounds-stocks-id c = search rules
 
 wide-requires : tie.Need-wide-requires
 wide-requires c κs = search rules
@@ -54,30 +54,30 @@ wide-requires c κs = search rules
 tokens-requires : tie.Need-tokens-requires
 tokens-requires c κs = search rules
 
-add-result : tie.Need-overflow-add-result
-add-result c = search rules
+overflow_add-result : tie.Need-overflow_add-result
+overflow_add-result c = search rules
 
 returns : tie.Need-returns
 unfolding demand_at field ids
 returns c = (rw (c.before.wide.ensures.0, c.tokens.ensures.0), search rules)
 
-pub demand-at-spec : {M : Type 1} → statement M
-demand-at-spec =
+pub demand_at_spec : {M : Type 1} → statement M
+demand_at_spec =
     tie.close
     (tie.spec
-    add-rate
-    cast-rate
-    mul-rate
-    element-copy-out-rate
-    add-level
-    cast-level
-    mul-level
-    element-copy-out-level
-    add-waiting
-    cast-waiting
-    mul-waiting
-    element-copy-out-waiting
+    overflow_add-rate
+    overflow_cast-rate
+    offset_bounds-terms-id
+    bounds-terms-id
+    overflow_add-level
+    overflow_cast-level
+    offset_bounds-terms-id-2
+    bounds-terms-id-2
+    overflow_add-waiting
+    overflow_cast-waiting
+    offset_bounds-stocks-id
+    bounds-stocks-id
     wide-requires
     tokens-requires
-    add-result
+    overflow_add-result
     returns)

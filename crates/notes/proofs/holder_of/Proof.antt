@@ -1,9 +1,7 @@
 -- `notes::holder_of` meets its contract: what is no slot is nobody's, and a slot is whose its outcome says. Assumes nothing.
 use borrow.Author.Rules.{rules}
-use native.Mathlib.Omega.{arith}
 use Prim.Native.Nat.{ℕ}
 use mathlib.Core.Path.{◌≡◌, refl, sym, ap, ◌∙◌}
-use mathlib.Core.Logic.{⊎_elim}
 use Rattle.definitions.specs.declared.Outcome.{Outcome}
 use Rattle.definitions.specs.declared.Answer.{Answer}
 use Rattle.definitions.specs.declared.Answer.TheVariants.{Accepted, Refused, Slot}
@@ -22,45 +20,43 @@ no_slot Accepted other = refl
 no_slot (Refused n) other = refl
 no_slot (Slot outcome) other = absurd (other outcome refl)
 
-enum-known-answer : tie.Need-enum-known-answer
-enum-known-answer c = search rules
+enum_known-answer : tie.Need-enum_known-answer
+enum_known-answer c = search rules
 
-returns : tie.Need-returns
+returns-in_default : tie.Need-returns-in_default
 unfolding ids
-returns c =
-    no_slot _
-    (λ outcome e. ⊎_elim (λ h. omega (arith, rw e at h)) (λ h. omega (arith, rw e at h)) c.match.keys2)
+returns-in_default c = no_slot _ c.in_default.not-Slot
 
-enum-known-outcome : tie.Need-enum-known-outcome
-enum-known-outcome c = search rules
+enum_known-outcome : tie.Need-enum_known-outcome
+enum_known-outcome c = search rules
 
-enum-known-outcome-2 : tie.Need-enum-known-outcome-2
-enum-known-outcome-2 c = search rules
+enum_known-outcome-in-Dummy-1 : tie.Need-enum_known-outcome-in-Dummy-1
+enum_known-outcome-in-Dummy-1 c = search rules
 
-enum-known-outcome-3 : tie.Need-enum-known-outcome-3
-enum-known-outcome-3 c = search rules
+enum_known-outcome-in-Idle-1 : tie.Need-enum_known-outcome-in-Idle-1
+enum_known-outcome-in-Idle-1 c = search rules
 
-enum_told : tie.Need-enum-told
-enum_told c = search rules
+enum_told-1 : tie.Need-enum_told-1
+enum_told-1 c = search rules
 
-returns_2 : tie.Need-returns-2
+returns-in-Real : tie.Need-returns-in-Real
 unfolding held holder
-returns_2 c = sym (ap holder c.before.before.before.before.answer.given.1 ∙ ap held c.before.outcome.given.1)
+returns-in-Real c = sym (ap holder c.in-Slot.is ∙ ap held c.in-Real.is)
 
-returns-3 : tie.Need-returns-3
+returns-in-Dummy : tie.Need-returns-in-Dummy
 unfolding held holder
-returns-3 c = sym (ap holder c.before.before.before.before.answer.given.1 ∙ ap held c.before.outcome2.given.1)
+returns-in-Dummy c = sym (ap holder c.in-Slot.is ∙ ap held c.in-Dummy.is)
 
-returns-4 : tie.Need-returns-4
+returns-in-Idle : tie.Need-returns-in-Idle
 unfolding held holder
-returns-4 c = sym (ap holder c.before.before.before.before.answer.given.1 ∙ ap held c.before.outcome3.given.1)
+returns-in-Idle c = sym (ap holder c.in-Slot.is ∙ ap held c.in-Idle.is)
 
-returns-5 : tie.Need-returns-5
+returns-in-None : tie.Need-returns-in-None
 unfolding held holder ids
-returns-5 c = sym (ap holder c.before.before.before.answer.given.1 ∙ ap held c.enum_told.given.1)
+returns-in-None c = sym (ap holder c.in-Slot.is ∙ ap held c.in-None.is)
 
-pub holder-of-spec : {M : Type 1} → statement M
-holder-of-spec =
+pub holder_of_spec : {M : Type 1} → statement M
+holder_of_spec =
     tie.close
-    (tie.spec enum-known-answer returns enum-known-outcome enum-known-outcome-2 enum-known-outcome-3 enum_told returns_2 returns-3
-    returns-4 returns-5)
+    (tie.spec enum_known-answer returns-in_default enum_known-outcome enum_known-outcome-in-Dummy-1 enum_known-outcome-in-Idle-1 enum_told-1 returns-in-Real returns-in-Dummy
+    returns-in-Idle returns-in-None)

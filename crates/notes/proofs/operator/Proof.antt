@@ -7,28 +7,28 @@ use Rattle.definitions.specs.Notes.{note_of}
 use Rattle.notes.proofs.operator.Statement.{statement}
 use Rattle.notes.proofs.operator.Tie as tie
 
-enum_told : tie.Need-enum-told
-enum_told c = search rules
+enum_told-1 : tie.Need-enum_told-1
+enum_told-1 c = search rules
 
-enum-known-answer : tie.Need-enum-known-answer
-enum-known-answer c = search rules
+enum_known-answer : tie.Need-enum_known-answer
+enum_known-answer c = search rules
 
-enum-known-answer-2 : tie.Need-enum-known-answer-2
-enum-known-answer-2 c = search rules
+enum_known-answer-in-Slot-1 : tie.Need-enum_known-answer-in-Slot-1
+enum_known-answer-in-Slot-1 c = search rules
 
-returns : tie.Need-returns
+returns-in-Accepted : tie.Need-returns-in-Accepted
 unfolding note_of number
-returns c = sym (ap (λ (a : Answer). note_of a c.before.before.args.reason) c.enum_told.given.1)
+returns-in-Accepted c = sym (ap (λ (a : Answer). note_of a c.args.reason) c.in-Accepted.is)
 
-returns_2 : tie.Need-returns-2
+returns-in-Refused : tie.Need-returns-in-Refused
 unfolding note_of number
-returns_2 c = sym (ap (λ (a : Answer). note_of a c.before.before.before.args.reason) c.before.answer.given.1)
+returns-in-Refused c = sym (ap (λ (a : Answer). note_of a c.args.reason) c.in-Refused.is)
 
-returns-3 : tie.Need-returns-3
+returns-in-Slot : tie.Need-returns-in-Slot
 unfolding note_of
-returns-3 c = sym (ap (λ (a : Answer). note_of a c.before.before.before.args.reason) c.before.answer2.given.1)
+returns-in-Slot c = sym (ap (λ (a : Answer). note_of a c.args.reason) c.in-Slot.is)
 
-pub operator-spec : {M : Type 1} → statement M
-operator-spec =
+pub operator_spec : {M : Type 1} → statement M
+operator_spec =
     tie.close
-    (tie.spec enum_told enum-known-answer enum-known-answer-2 returns returns_2 returns-3)
+    (tie.spec enum_told-1 enum_known-answer enum_known-answer-in-Slot-1 returns-in-Accepted returns-in-Refused returns-in-Slot)

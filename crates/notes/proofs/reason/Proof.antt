@@ -8,27 +8,27 @@ use Rattle.notes.specs.ReasonLeft.{reason_left}
 use Rattle.notes.proofs.reason.Statement.{statement}
 use Rattle.notes.proofs.reason.Tie as tie
 
-returns : tie.Need-returns
+returns-then-not-control : tie.Need-returns-then-not-control
 unfolding reason_left
-returns c t =
+returns-then-not-control c t =
     let a = c.before.before.args in
-    rw (core_of_shut a.control t (not-true a.control.opened c.if1.true))
+    rw (core_of_shut a.control t (not-true a.control.opened c.if-not-control.true))
 
-returns_2 : tie.Need-returns-2
+returns-then-sum-eq0 : tie.Need-returns-then-sum-eq0
 unfolding reason_left
-returns_2 c t =
+returns-then-sum-eq0 c t =
     let a = c.before.before.before.args in
-    rw (core_of-opened a.control t (not-false a.control.opened c.before.if1.false), eq-eqb a.sum 0 c.if2.true)
+    rw (core_of-opened a.control t (not-false a.control.opened c.before.if-not-control.false), eq-eqb a.sum 0 c.if-sum-eq0.true)
 
 remainder-requires : tie.Need-remainder-requires
 remainder-requires c κs = search rules
 
-returns-3 : tie.Need-returns-3
+returns : tie.Need-returns
 unfolding reason_left state_of side_of
-returns-3 c t =
+returns c t =
     let tested = c.before.before in
     let a = tested.before.before.before.args in
-    rw (core_of-opened a.control t (not-false a.control.opened tested.before.if1.false), ne_eqb a.sum 0 tested.if2.false, c.remainder.ensures)
+    rw (core_of-opened a.control t (not-false a.control.opened tested.before.if-not-control.false), ne_eqb a.sum 0 tested.if-sum-eq0.false, c.remainder.ensures)
 
-pub reason-spec : {M : Type 1} → statement M
-reason-spec = tie.close (tie.spec returns returns_2 remainder-requires returns-3)
+pub reason_spec : {M : Type 1} → statement M
+reason_spec = tie.close (tie.spec returns-then-not-control returns-then-sum-eq0 remainder-requires returns)

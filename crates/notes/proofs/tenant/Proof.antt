@@ -13,92 +13,92 @@ use Rattle.notes.proofs.tenant.Statement.{statement}
 use Rattle.notes.proofs.tenant.Tie as tie
 
 -- where the checks are passed
-abbrev passed : tie.After-holder-of → tie.Else1
+abbrev passed : tie.After-holder_of-holder → tie.Else-number-ne0
 passed c = c.before.before
 
-abbrev start : tie.After-holder-of → tie.Start
+abbrev start : tie.After-holder_of-holder → tie.Start
 start c = (passed c).before.before
 
 -- the slot is another's, and somebody's
-elsewhere : (c : tie.Else2) → holder (start c.before).args.answer ≢ (start c.before).args.id
-elsewhere c e = c.if2.false (c.before.holder-of.ensures ∙ e)
+elsewhere : (c : tie.Else-holder-id) → holder c.args.answer ≢ c.args.id
+elsewhere c e = c.if-holder-id.false (c.holder_of-holder.ensures ∙ e)
 
-below : (c : tie.Else3) → holder (start c.before.before).args.answer < ids
+below : (c : tie.Else-holder-ge-IDS) → holder c.args.answer < ids
 unfolding ids
-below c = omega (arith, c.before.before.holder-of.ensures, c.if3.false)
+below c = omega (arith, c.holder_of-holder.ensures, c.if-holder-ge-IDS.false)
 
 -- the mark of its holder
-unmarked : (c : tie.Else4) →
-    let at = c.before.before.before.before in
-    marked (start at).args.control.indifferent (holder (start at).args.answer) ≡ false
-unmarked c = rw c.before.before.before.before.holder-of.ensures at (sym c.before.has.ensures ∙ c.if4.false)
+unmarked : (c : tie.Else-has) →
+    let at = c in
+    marked c.args.control.indifferent (holder c.args.answer) ≡ false
+unmarked c = rw c.holder_of-holder.ensures at (sym c.has.ensures ∙ c.if-has.false)
 
-tenant-number-requires : tie.Need-tenant-number-requires
-tenant-number-requires c κs = search rules
+tenant_number-number-requires : tie.Need-tenant_number-number-requires
+tenant_number-number-requires c κs = search rules
 
-returns : tie.Need-returns
-returns c t =
-    let a = c.before.before.args in
-    told-refused a.control t a.id a.answer a.reason (c.before.tenant-number.ensures t) c.if1.true
+returns-then-number-ne0 : tie.Need-returns-then-number-ne0
+returns-then-number-ne0 c t =
+    let a = c.args in
+    told-refused a.control t a.id a.answer a.reason (c.tenant_number-number.ensures t) c.if-number-ne0.true
 
-operator-requires : tie.Need-operator-requires
-operator-requires c κs = search rules
+operator-whole-requires : tie.Need-operator-whole-requires
+operator-whole-requires c κs = search rules
 
-holder-of-requires : tie.Need-holder-of-requires
-holder-of-requires c κs = search rules
+holder_of-holder-requires : tie.Need-holder_of-holder-requires
+holder_of-holder-requires c κs = search rules
 
-returns_2 : tie.Need-returns-2
-returns_2 c t =
-    let at = c.before in
-    let a = (start at).args in
-    at.before.operator.ensures
-    ∙ told_own a.control t a.id a.answer a.reason ((passed at).before.tenant-number.ensures t)
-    (passed at).if1.false
-    (sym at.holder-of.ensures ∙ c.if2.true)
+returns-then-holder-id : tie.Need-returns-then-holder-id
+returns-then-holder-id c t =
+    let at = c in
+    let a = c.args in
+    at.operator-whole.ensures
+    ∙ told_own a.control t a.id a.answer a.reason (c.tenant_number-number.ensures t)
+    c.if-number-ne0.false
+    (sym at.holder_of-holder.ensures ∙ c.if-holder-id.true)
 
-returns-3 : tie.Need-returns-3
+returns-then-holder-ge-IDS : tie.Need-returns-then-holder-ge-IDS
 unfolding ids
-returns-3 c t =
-    let at = c.before.before in
-    let a = (start at).args in
-    at.before.operator.ensures
-    ∙ told-nobody a.control t a.id a.answer a.reason ((passed at).before.tenant-number.ensures t)
-    (passed at).if1.false (elsewhere c.before)
-    (omega (arith, at.holder-of.ensures, c.if3.true))
+returns-then-holder-ge-IDS c t =
+    let at = c in
+    let a = c.args in
+    at.operator-whole.ensures
+    ∙ told-nobody a.control t a.id a.answer a.reason (c.tenant_number-number.ensures t)
+    c.if-number-ne0.false (elsewhere c.before)
+    (omega (arith, at.holder_of-holder.ensures, c.if-holder-ge-IDS.true))
 
 has-requires : tie.Need-has-requires
 has-requires c κs = search rules
 
-returns-4 : tie.Need-returns-4
-returns-4 c t =
-    let at = c.before.before.before.before in
-    let a = (start at).args in
-    told_indifferent a.control t a.id a.answer a.reason ((passed at).before.tenant-number.ensures t)
-    (passed at).if1.false (elsewhere c.before.before.before) (below c.before.before)
-    (rw at.holder-of.ensures at (sym c.before.has.ensures ∙ c.if4.true))
+returns-then-has : tie.Need-returns-then-has
+returns-then-has c t =
+    let at = c in
+    let a = c.args in
+    told_indifferent a.control t a.id a.answer a.reason (c.tenant_number-number.ensures t)
+    c.if-number-ne0.false (elsewhere c.before.before.before) (below c.before.before)
+    (rw at.holder_of-holder.ensures at (sym c.has.ensures ∙ c.if-has.true))
 
 has-requires-2 : tie.Need-has-requires-2
 has-requires-2 c κs = search rules
 
-returns-5 : tie.Need-returns-5
-returns-5 c t =
-    let at = c.before.before.before.before.before.before in
-    let a = (start at).args in
-    told_another a.control t a.id a.answer a.reason ((passed at).before.tenant-number.ensures t)
-    (passed at).if1.false (elsewhere c.before.before.before.before.before) (below c.before.before.before.before) (unmarked c.before.before)
-    (rw at.holder-of.ensures at (sym c.before.has2.ensures ∙ c.if5.true))
+returns-then-has-2 : tie.Need-returns-then-has-2
+returns-then-has-2 c t =
+    let at = c in
+    let a = c.args in
+    told_another a.control t a.id a.answer a.reason (c.tenant_number-number.ensures t)
+    c.if-number-ne0.false (elsewhere c.before.before.before.before.before) (below c.before.before.before.before) (unmarked c.before.before)
+    (rw at.holder_of-holder.ensures at (sym c.has-2.ensures ∙ c.if-has-2.true))
 
-returns-6 : tie.Need-returns-6
-returns-6 c t =
-    let at = c.before.before.before.before.before.before in
-    let a = (start at).args in
-    at.before.operator.ensures
-    ∙ told_neither a.control t a.id a.answer a.reason ((passed at).before.tenant-number.ensures t)
-    (passed at).if1.false (elsewhere c.before.before.before.before.before) (below c.before.before.before.before) (unmarked c.before.before)
-    (rw at.holder-of.ensures at (sym c.before.has2.ensures ∙ c.if5.false))
+returns : tie.Need-returns
+returns c t =
+    let at = c in
+    let a = c.args in
+    at.operator-whole.ensures
+    ∙ told_neither a.control t a.id a.answer a.reason (c.tenant_number-number.ensures t)
+    c.if-number-ne0.false (elsewhere c.before.before.before.before.before) (below c.before.before.before.before) (unmarked c.before.before)
+    (rw at.holder_of-holder.ensures at (sym c.has-2.ensures ∙ c.if-has-2.false))
 
-pub tenant-spec : {M : Type 1} → statement M
-tenant-spec =
+pub tenant_spec : {M : Type 1} → statement M
+tenant_spec =
     tie.close
-    (tie.spec tenant-number-requires returns operator-requires holder-of-requires returns_2 returns-3 has-requires returns-4
-    has-requires-2 returns-5 returns-6)
+    (tie.spec tenant_number-number-requires returns-then-number-ne0 operator-whole-requires holder_of-holder-requires returns-then-holder-id returns-then-holder-ge-IDS has-requires returns-then-has
+    has-requires-2 returns-then-has-2 returns)

@@ -15,34 +15,34 @@ use Rattle.tables.proofs.ActiveChecks.{active_failed, active_below, active_rest}
 use Rattle.notes.proofs.tenant_number.Statement.{statement}
 use Rattle.notes.proofs.tenant_number.Tie as tie
 
-active-number-requires : tie.Need-active-number-requires
-active-number-requires c κs = search rules
+active_number-number-requires : tie.Need-active_number-number-requires
+active_number-number-requires c κs = search rules
 
-returns : tie.Need-returns
+returns-then-number-ne0 : tie.Need-returns-then-number-ne0
 unfolding tenant_checks
-returns c t =
+returns-then-number-ne0 c t =
     let a = c.before.before.args in
-    active_failed a.control a.id _ c.before.active-number.ensures t _ c.if1.true
+    active_failed a.control a.id _ c.before.active_number-number.ensures t _ c.if-number-ne0.true
 
 -- once the id is known to be active
-rest : (c : tie.Else1) (t : Tables) →
+rest : (c : tie.Else-number-ne0) (t : Tables) →
     let a = c.before.before.args in
     refusal a.control t (λ s. tenant_checks s a.id) ≡ cond (not (marked a.control.indifferent a.id)) 0 11
 unfolding tenant_checks first_failed state_of clients_of client_at
 rest c t =
     let a = c.before.before.args in
-    let below : a.id < ids = active_below a.control a.id _ c.before.active-number.ensures c.if1.false in
-    active_rest a.control a.id _ c.before.active-number.ensures c.if1.false t _
+    let below : a.id < ids = active_below a.control a.id _ c.before.active_number-number.ensures c.if-number-ne0.false in
+    active_rest a.control a.id _ c.before.active_number-number.ensures c.if-number-ne0.false t _
     ∙ rw (lt-ltb a.id ids below, kind_indifferent a.control a.id)
 
 has-requires : tie.Need-has-requires
 has-requires c κs = search rules
 
-returns_2 : tie.Need-returns-2
-returns_2 c t = sym (rest c.before.before t ∙ rw (sym c.before.has.ensures ∙ c.if2.true))
+returns-then-has : tie.Need-returns-then-has
+returns-then-has c t = sym (rest c.before.before t ∙ rw (sym c.before.has.ensures ∙ c.if-has.true))
 
-returns-3 : tie.Need-returns-3
-returns-3 c t = sym (rest c.before.before t ∙ rw (sym c.before.has.ensures ∙ c.if2.false))
+returns : tie.Need-returns
+returns c t = sym (rest c.before.before t ∙ rw (sym c.before.has.ensures ∙ c.if-has.false))
 
-pub tenant-number-spec : {M : Type 1} → statement M
-tenant-number-spec = tie.close (tie.spec active-number-requires returns has-requires returns_2 returns-3)
+pub tenant_number_spec : {M : Type 1} → statement M
+tenant_number_spec = tie.close (tie.spec active_number-number-requires returns-then-number-ne0 has-requires returns-then-has returns)

@@ -13,8 +13,8 @@ use Rattle.script.proofs.line.Tie as tie
 -- what holds where the line ends
 ends : (c : tie.After-line-at)
     → let start = c.before.before.before.args in
-    LineEnd start.text.now start.at c.line_at_lem.result.end
-ends c = span_end _ _ _ c.line_at_lem.ensures (omega arith)
+    LineEnd start.text.now start.at c.line_at.result.end
+ends c = span_end _ _ _ c.line_at.ensures (omega arith)
 
 line-at-requires : tie.Need-line-at-requires
 line-at-requires c κs = search rules
@@ -29,7 +29,7 @@ returns : tie.Need-returns
 returns c =
     let found = c.before.before.before.before.before in
     let start = found.before.before.before in
-    walked_open _ _ _ _ _ _ _ start.requires.1 start.requires.2 _ found.line_at_lem.ensures start.requires.0
+    walked_open _ _ _ _ _ _ _ start.requires.1 start.requires.2 _ found.line_at.ensures start.requires.0
     c.before.before.before.before.if1.true
     c.before.before.print-unread.ensures
 
@@ -70,7 +70,7 @@ returns_2 c =
     let more = parsed.before.before.if1.false in
     let none = told.enum_told.given.1 in
     let number = c.before.before.before.before.unread-number.ensures ∙ ap unread_number none in
-    walked_unread _ _ _ _ _ _ _ start.requires.1 start.requires.2 _ found.line_at_lem.ensures (omega (arith, within)) _
+    walked_unread _ _ _ _ _ _ _ start.requires.1 start.requires.2 _ found.line_at.ensures (omega (arith, within)) _
     start.requires.0 (sym parsed.parse.ensures ∙ none ∙ ap Unread (sym number)) c.before.before.print-unread2.ensures
 
 is-tick-requires : tie.Need-is-tick-requires
@@ -95,7 +95,7 @@ returns-3 c =
     let start = found.before.before.before in
     let within = (ends found).within in
     let more = parsed.before.before.if1.false in
-    walked_form _ _ _ _ _ _ _ start.requires.1 start.requires.2 _ found.line_at_lem.ensures (omega (arith, within)) _
+    walked_form _ _ _ _ _ _ _ start.requires.1 start.requires.2 _ found.line_at.ensures (omega (arith, within)) _
     (sym parsed.parse.ensures ∙ read.read.given.1) start.requires.0 _ _ performed.perform-told.ensures
     _ asked.is-tick.ensures
     (c.before.before.show.ensures _)

@@ -11,15 +11,15 @@ has-requires c κs = search rules
 unlink-requires : tie.Need-unlink-requires
 unlink-requires c κs = search rules
 
-returns : tie.Need-returns
-returns c =
-    let marked = sym c.before.before.before.has.ensures ∙ c.before.before.if1.true in
+returns-then-has : tie.Need-returns-then-has
+returns-then-has c =
+    let marked = sym c.before.before.before.has.ensures ∙ c.before.before.if-has.true in
     record { sound = c.unlink.ensures.0; kept = λ e. true-false marked e; gone = λ e. c.unlink.ensures.1 }
 
-returns_2 : tie.Need-returns-2
-returns_2 c =
-    let unmarked = sym c.before.has.ensures ∙ c.if1.false in
+returns-else-has : tie.Need-returns-else-has
+returns-else-has c =
+    let unmarked = sym c.before.has.ensures ∙ c.if-has.false in
     record { sound = c.before.before.requires; kept = λ e. refl; gone = λ e. true-false e unmarked }
 
-pub leave-order-spec : {M : Type 1} → statement M
-leave-order-spec = tie.close (tie.spec has-requires unlink-requires returns returns_2)
+pub leave_order_spec : {M : Type 1} → statement M
+leave_order_spec = tie.close (tie.spec has-requires unlink-requires returns-then-has returns-else-has)

@@ -7,19 +7,19 @@ use Rattle.tables.specs.Meaning.{packet_at}
 use Rattle.slot.proofs.packet_at.Statement.{statement}
 use Rattle.slot.proofs.packet_at.Tie as tie
 
-mul-t5 : tie.Need-overflow-mul-t5
-mul-t5 c = search rules
+offset_bounds-handles-at : tie.Need-offset_bounds-handles-at
+offset_bounds-handles-at c = search rules
 
-element-copy-out-t8 : tie.Need-element-copy-out-t8
+bounds-handles-at : tie.Need-bounds-handles-at
 unfolding sentinel ids places
-element-copy-out-t8 c = omega arith
+bounds-handles-at c = omega arith
 
-mul-lengthened : tie.Need-overflow-mul-lengthened
-mul-lengthened c = search rules
+offset_bounds-lengths-at : tie.Need-offset_bounds-lengths-at
+offset_bounds-lengths-at c = search rules
 
-element-copy-out-lengthened : tie.Need-element-copy-out-lengthened
+bounds-lengths-at : tie.Need-bounds-lengths-at
 unfolding sentinel ids places
-element-copy-out-lengthened c = omega arith
+bounds-lengths-at c = omega arith
 
 lengthened-requires : tie.Need-lengthened-requires
 lengthened-requires c κs = search rules
@@ -28,7 +28,7 @@ returns : tie.Need-returns
 unfolding packet_at
 returns c es ks ns ms = rw c.lengthened.ensures
 
-pub packet-at-spec : {M : Type 1} → statement M
-packet-at-spec =
+pub packet_at_spec : {M : Type 1} → statement M
+packet_at_spec =
     tie.close
-    (tie.spec mul-t5 element-copy-out-t8 mul-lengthened element-copy-out-lengthened lengthened-requires returns)
+    (tie.spec offset_bounds-handles-at bounds-handles-at offset_bounds-lengths-at bounds-lengths-at lengthened-requires returns)

@@ -9,17 +9,17 @@ use Rattle.slot.proofs.padding.Tie as tie
 has-requires : tie.Need-has-requires
 has-requires c κs = search rules
 
-sub-result : tie.Need-overflow-sub-result
+overflow_sub-result : tie.Need-overflow_sub-result
 unfolding longest
-sub-result c = omega arith
+overflow_sub-result c = omega arith
 
-returns : tie.Need-returns
+returns-then-has : tie.Need-returns-then-has
 unfolding longest
-returns c = rw (sym c.before.has.ensures ∙ c.if1.true)
+returns-then-has c = rw (sym c.before.has.ensures ∙ c.if-has.true)
 
-returns_2 : tie.Need-returns-2
+returns-else-has : tie.Need-returns-else-has
 unfolding longest
-returns_2 c = rw (sym c.before.has.ensures ∙ c.if1.false)
+returns-else-has c = rw (sym c.before.has.ensures ∙ c.if-has.false)
 
-pub padding-spec : {M : Type 1} → statement M
-padding-spec = tie.close (tie.spec has-requires sub-result returns returns_2)
+pub padding_spec : {M : Type 1} → statement M
+padding_spec = tie.close (tie.spec has-requires overflow_sub-result returns-then-has returns-else-has)

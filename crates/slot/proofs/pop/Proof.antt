@@ -8,55 +8,55 @@ use Rattle.slot.specs.Sends.{popped}
 use Rattle.slot.proofs.pop.Statement.{statement}
 use Rattle.slot.proofs.pop.Tie as tie
 
-add-head : tie.Need-overflow-add-head
+overflow_add-head : tie.Need-overflow_add-head
 unfolding ids
-add-head c = omega arith
+overflow_add-head c = omega arith
 
-cast-head : tie.Need-overflow-cast-head
-cast-head c = search rules
+overflow_cast-head : tie.Need-overflow_cast-head
+overflow_cast-head c = search rules
 
-add-count : tie.Need-overflow-add-count
+overflow_add-count : tie.Need-overflow_add-count
 unfolding ids
-add-count c = omega arith
+overflow_add-count c = omega arith
 
-cast-count : tie.Need-overflow-cast-count
-cast-count c = search rules
+overflow_cast-count : tie.Need-overflow_cast-count
+overflow_cast-count c = search rules
 
-mul-first : tie.Need-overflow-mul-first
-mul-first c = search rules
+offset_bounds-stocks-head : tie.Need-offset_bounds-stocks-head
+offset_bounds-stocks-head c = search rules
 
-element-copy-out-first : tie.Need-element-copy-out-first
+bounds-stocks-head : tie.Need-bounds-stocks-head
 unfolding ids
-element-copy-out-first c = omega arith
+bounds-stocks-head c = omega arith
 
-mul-waiting : tie.Need-overflow-mul-waiting
-mul-waiting c = search rules
+offset_bounds-stocks-count : tie.Need-offset_bounds-stocks-count
+offset_bounds-stocks-count c = search rules
 
-element-copy-out-waiting : tie.Need-element-copy-out-waiting
+bounds-stocks-count : tie.Need-bounds-stocks-count
 unfolding ids
-element-copy-out-waiting c = omega arith
+bounds-stocks-count c = omega arith
 
-add-stocks : tie.Need-overflow-add-stocks
+overflow_add-stocks : tie.Need-overflow_add-stocks
 unfolding ids places field
-add-stocks c = omega arith
+overflow_add-stocks c = omega arith
 
-mul-stocks : tie.Need-overflow-mul-stocks
-mul-stocks c = search rules
+offset_bounds-stocks-head-2 : tie.Need-offset_bounds-stocks-head-2
+offset_bounds-stocks-head-2 c = search rules
 
-element-write-stocks : tie.Need-element-write-stocks
+bounds-stocks-head-2 : tie.Need-bounds-stocks-head-2
 unfolding ids places field
-element-write-stocks c = omega arith
+bounds-stocks-head-2 c = omega arith
 
-sub-stocks : tie.Need-overflow-sub-stocks
+overflow_sub-stocks : tie.Need-overflow_sub-stocks
 unfolding ids places field
-sub-stocks c = omega arith
+overflow_sub-stocks c = omega arith
 
-mul-stocks-2 : tie.Need-overflow-mul-stocks-2
-mul-stocks-2 c = search rules
+offset_bounds-stocks-count-2 : tie.Need-offset_bounds-stocks-count-2
+offset_bounds-stocks-count-2 c = search rules
 
-element-write-stocks-2 : tie.Need-element-write-stocks-2
+bounds-stocks-count-2 : tie.Need-bounds-stocks-count-2
 unfolding ids places field
-element-write-stocks-2 c = omega arith
+bounds-stocks-count-2 c = omega arith
 
 returns : tie.Need-returns
 unfolding ids places field popped
@@ -66,18 +66,18 @@ pub pop_spec : {M : Type 1} → statement M
 pop_spec =
     tie.close
     (tie.spec
-    add-head
-    cast-head
-    add-count
-    cast-count
-    mul-first
-    element-copy-out-first
-    mul-waiting
-    element-copy-out-waiting
-    add-stocks
-    mul-stocks
-    element-write-stocks
-    sub-stocks
-    mul-stocks-2
-    element-write-stocks-2
+    overflow_add-head
+    overflow_cast-head
+    overflow_add-count
+    overflow_cast-count
+    offset_bounds-stocks-head
+    bounds-stocks-head
+    offset_bounds-stocks-count
+    bounds-stocks-count
+    overflow_add-stocks
+    offset_bounds-stocks-head-2
+    bounds-stocks-head-2
+    overflow_sub-stocks
+    offset_bounds-stocks-count-2
+    bounds-stocks-count-2
     returns)

@@ -14,18 +14,18 @@ use Rattle.slot.proofs.private_total.Tie as tie
 wide-requires : tie.Need-wide-requires
 wide-requires c κs = search rules
 
-returns : tie.Need-returns
-returns c =
+returns-then-control-eq0 : tie.Need-returns-then-control-eq0
+returns-then-control-eq0 c =
     let start = c.before.before.before in
     let terms = start.args.terms.now in
-    let none = ap (λ (word : ℕ). sum_below ids (weight_at word terms)) c.before.if1.true ∙ weightless terms in
+    let none = ap (λ (word : ℕ). sum_below ids (weight_at word terms)) c.before.if-control-eq0.true ∙ weightless terms in
     omega (arith, none, start.requires, c.wide.ensures)
 
 total-requires : tie.Need-total-requires
 total-requires c κs = search rules
 
-returns_2 : tie.Need-returns-2
-returns_2 c = search rules
+returns-then-control : tie.Need-returns-then-control
+returns-then-control c = search rules
 
 wide-requires-2 : tie.Need-wide-requires-2
 wide-requires-2 c κs = search rules
@@ -33,13 +33,13 @@ wide-requires-2 c κs = search rules
 total-requires-2 : tie.Need-total-requires-2
 total-requires-2 c κs = search rules
 
-sub-result : tie.Need-overflow-sub-result
-sub-result c = search rules
+overflow_sub-result : tie.Need-overflow_sub-result
+overflow_sub-result c = search rules
 
-returns-3 : tie.Need-returns-3
-returns-3 c = search rules
+returns : tie.Need-returns
+returns c = search rules
 
-pub private-total-spec : {M : Type 1} → statement M
-private-total-spec =
+pub private_total_spec : {M : Type 1} → statement M
+private_total_spec =
     tie.close
-    (tie.spec wide-requires returns total-requires returns_2 wide-requires-2 total-requires-2 sub-result returns-3)
+    (tie.spec wide-requires returns-then-control-eq0 total-requires returns-then-control wide-requires-2 total-requires-2 overflow_sub-result returns)

@@ -10,97 +10,97 @@ use Rattle.slot.proofs.RefillEach.{Sweep, sweep_start, reached_bucket, sweep_ste
 use Rattle.slot.proofs.refill_each.Statement.{statement}
 use Rattle.slot.proofs.refill_each.Tie as tie
 
-abbrev invariant-loop : tie.invariant-loop
-invariant-loop word terms₀ id₀ terms id = (id ≤ 64) × Sweep id terms₀ terms
+abbrev invariant-loop-id : tie.invariant-loop-id
+invariant-loop-id word terms₀ id₀ terms id = (id ≤ 64) × Sweep id terms₀ terms
 
-abbrev decreases-loop : tie.decreases-loop
-decreases-loop word terms₀ id₀ terms id = 64 - id
+abbrev decreases-loop-id : tie.decreases-loop-id
+decreases-loop-id word terms₀ id₀ terms id = 64 - id
 
-loop-holds : tie.Need-loop-init invariant-loop decreases-loop
-loop-holds c = (omega arith, sweep_start c.args.terms.now)
+loop-id-init : tie.Need-loop-id-init invariant-loop-id decreases-loop-id
+loop-id-init c = (omega arith, sweep_start c.args.terms.now)
 
-add-level-after : tie.Need-overflow-add-level-after invariant-loop decreases-loop
-add-level-after c = search rules
+overflow_add-id : tie.Need-overflow_add-id invariant-loop-id decreases-loop-id
+overflow_add-id c = search rules
 
-mul-level-after : tie.Need-overflow-mul-level-after invariant-loop decreases-loop
-mul-level-after c = search rules
+offset_bounds-terms-id : tie.Need-offset_bounds-terms-id invariant-loop-id decreases-loop-id
+offset_bounds-terms-id c = search rules
 
-element-copy-out-level-after : tie.Need-element-copy-out-level-after invariant-loop decreases-loop
-element-copy-out-level-after c = search rules
+bounds-terms-id : tie.Need-bounds-terms-id invariant-loop-id decreases-loop-id
+bounds-terms-id c = search rules
 
-mul-level-after-2 : tie.Need-overflow-mul-level-after-2 invariant-loop decreases-loop
-mul-level-after-2 c = search rules
+offset_bounds-terms-id-in-loop-id : tie.Need-offset_bounds-terms-id-in-loop-id invariant-loop-id decreases-loop-id
+offset_bounds-terms-id-in-loop-id c = search rules
 
-element-copy-out-level-after-2 : tie.Need-element-copy-out-level-after-2 invariant-loop decreases-loop
-element-copy-out-level-after-2 c = search rules
+bounds-terms-id-in-loop-id : tie.Need-bounds-terms-id-in-loop-id invariant-loop-id decreases-loop-id
+bounds-terms-id-in-loop-id c = search rules
 
-add-level-after-2 : tie.Need-overflow-add-level-after-2 invariant-loop decreases-loop
-add-level-after-2 c = search rules
+overflow_add-id-in-loop-id : tie.Need-overflow_add-id-in-loop-id invariant-loop-id decreases-loop-id
+overflow_add-id-in-loop-id c = search rules
 
-mul-level-after-3 : tie.Need-overflow-mul-level-after-3 invariant-loop decreases-loop
-mul-level-after-3 c = search rules
+offset_bounds-terms-id-in-loop-id-2 : tie.Need-offset_bounds-terms-id-in-loop-id-2 invariant-loop-id decreases-loop-id
+offset_bounds-terms-id-in-loop-id-2 c = search rules
 
-element-copy-out-level-after-3 : tie.Need-element-copy-out-level-after-3 invariant-loop decreases-loop
-element-copy-out-level-after-3 c = search rules
+bounds-terms-id-in-loop-id-2 : tie.Need-bounds-terms-id-in-loop-id-2 invariant-loop-id decreases-loop-id
+bounds-terms-id-in-loop-id-2 c = search rules
 
-level-after-requires : tie.Need-level-after-requires invariant-loop decreases-loop
+level_after-requires : tie.Need-level_after-requires invariant-loop-id decreases-loop-id
 unfolding field ids
-level-after-requires c κs =
+level_after-requires c κs =
     let at = c.before.before.before.before in
-    let below : at.loop.id < 64 = omega arith in
-    let b = reached_bucket at.before.args.terms.now at.loop.terms at.loop.id at.loop.invariant.1 below
-    (at.before.requires.buckets at.loop.id below) in
-    rw (← (rate_first at.loop.terms at.loop.id)) b
+    let below : at.loop-id.id < 64 = omega arith in
+    let b = reached_bucket at.before.args.terms.now at.loop-id.terms at.loop-id.id at.loop-id.invariant.1 below
+    (at.before.requires.buckets at.loop-id.id below) in
+    rw (← (rate_first at.loop-id.terms at.loop-id.id)) b
 
-add-terms : tie.Need-overflow-add-terms invariant-loop decreases-loop
-add-terms c = search rules
+overflow_add-terms : tie.Need-overflow_add-terms invariant-loop-id decreases-loop-id
+overflow_add-terms c = search rules
 
-mul-terms : tie.Need-overflow-mul-terms invariant-loop decreases-loop
-mul-terms c = search rules
+offset_bounds-terms-id-in-loop-id-3 : tie.Need-offset_bounds-terms-id-in-loop-id-3 invariant-loop-id decreases-loop-id
+offset_bounds-terms-id-in-loop-id-3 c = search rules
 
-element-write-terms : tie.Need-element-write-terms invariant-loop decreases-loop
-element-write-terms c = search rules
+bounds-terms-id-in-loop-id-3 : tie.Need-bounds-terms-id-in-loop-id-3 invariant-loop-id decreases-loop-id
+bounds-terms-id-in-loop-id-3 c = search rules
 
-add-id : tie.Need-overflow-add-id invariant-loop decreases-loop
-add-id c = search rules
+overflow_add-id-in-loop-id-2 : tie.Need-overflow_add-id-in-loop-id-2 invariant-loop-id decreases-loop-id
+overflow_add-id-in-loop-id-2 c = search rules
 
-loop-less : tie.Need-loop-smaller invariant-loop decreases-loop
-loop-less c = search rules
+loop-id-smaller : tie.Need-loop-id-smaller invariant-loop-id decreases-loop-id
+loop-id-smaller c = search rules
 
-loop-again : tie.Need-loop-preserved invariant-loop decreases-loop
+loop-id-preserved : tie.Need-loop-id-preserved invariant-loop-id decreases-loop-id
 unfolding field ids
-loop-again c =
+loop-id-preserved c =
     let at = c.before.before.before.before.before in
-    let below : at.loop.id < 64 = omega arith in
-    let next = sweep_step at.before.args.terms.now at.loop.terms at.loop.id at.loop.invariant.1 below at.before.requires.size in
-    (omega arith, rw (c.level-after.ensures, ← (rate_first at.loop.terms at.loop.id)) next)
+    let below : at.loop-id.id < 64 = omega arith in
+    let next = sweep_step at.before.args.terms.now at.loop-id.terms at.loop-id.id at.loop-id.invariant.1 below at.before.requires.size in
+    (omega arith, rw (c.level_after.ensures, ← (rate_first at.loop-id.terms at.loop-id.id)) next)
 
-returns : tie.Need-returns invariant-loop decreases-loop
+returns : tie.Need-returns invariant-loop-id decreases-loop-id
 unfolding ids
 returns c =
-    let all : c.before.loop.id ≡ 64 = omega arith in
-    sweep_done _ _ _ c.before.before.requires (rw all at c.before.loop.invariant.1)
+    let all : c.before.loop-id.id ≡ 64 = omega arith in
+    sweep_done _ _ _ c.before.before.requires (rw all at c.before.loop-id.invariant.1)
 
-pub refill-each-spec : {M : Type 1} → statement M
-refill-each-spec =
+pub refill_each_spec : {M : Type 1} → statement M
+refill_each_spec =
     tie.close
     (tie.spec
-    invariant-loop
-    decreases-loop
-    loop-holds
-    add-level-after
-    mul-level-after
-    element-copy-out-level-after
-    mul-level-after-2
-    element-copy-out-level-after-2
-    add-level-after-2
-    mul-level-after-3
-    element-copy-out-level-after-3
-    level-after-requires
-    add-terms
-    mul-terms
-    element-write-terms
-    add-id
-    loop-less
-    loop-again
+    invariant-loop-id
+    decreases-loop-id
+    loop-id-init
+    overflow_add-id
+    offset_bounds-terms-id
+    bounds-terms-id
+    offset_bounds-terms-id-in-loop-id
+    bounds-terms-id-in-loop-id
+    overflow_add-id-in-loop-id
+    offset_bounds-terms-id-in-loop-id-2
+    bounds-terms-id-in-loop-id-2
+    level_after-requires
+    overflow_add-terms
+    offset_bounds-terms-id-in-loop-id-3
+    bounds-terms-id-in-loop-id-3
+    overflow_add-id-in-loop-id-2
+    loop-id-smaller
+    loop-id-preserved
     returns)

@@ -13,125 +13,125 @@ use Rattle.slot.proofs.RefillMarked.{rate_first}
 use Rattle.slot.proofs.refill_marked.Statement.{statement}
 use Rattle.slot.proofs.refill_marked.Tie as tie
 
-abbrev invariant-loop : tie.invariant-loop
-invariant-loop word terms₀ left₀ terms left = Filling word left terms₀ terms
+abbrev invariant-loop-left : tie.invariant-loop-left
+invariant-loop-left word terms₀ left₀ terms left = Filling word left terms₀ terms
 
-abbrev decreases-loop : tie.decreases-loop
-decreases-loop word terms₀ left₀ terms left = left
+abbrev decreases-loop-left : tie.decreases-loop-left
+decreases-loop-left word terms₀ left₀ terms left = left
 
-more : (c : tie.In-loop invariant-loop decreases-loop) → 0 < c.before.loop.left
-more c = omega (arith, c.loop-test.true)
+more : (c : tie.In-loop-left invariant-loop-left decreases-loop-left) → 0 < c.before.loop-left.left
+more c = omega (arith, c.loop-left-test.true)
 
 -- the first id left is one of the ids
-below : (c : tie.After-first invariant-loop decreases-loop) → c.first.result < 64
+below : (c : tie.After-first-id invariant-loop-left decreases-loop-left) → c.first-id.result < 64
 unfolding ids
 below c =
     omega (
       arith,
-      c.first.ensures,
-      first_below _ _ _ _ c.before.before.before.requires c.before.before.loop.invariant (more c.before),
+      c.first-id.ensures,
+      first_below _ _ _ _ c.before.before.before.requires c.before.before.loop-left.invariant (more c.before),
     )
 
-bucket : (c : tie.After-first invariant-loop decreases-loop) → Within (bucket_at c.before.before.loop.terms c.first.result)
+bucket : (c : tie.After-first-id invariant-loop-left decreases-loop-left) → Within (bucket_at c.before.before.loop-left.terms c.first-id.result)
 bucket c =
-    rw c.first.ensures
-    (first_bucket _ _ _ _ c.before.before.before.requires c.before.before.loop.invariant (more c.before))
+    rw c.first-id.ensures
+    (first_bucket _ _ _ _ c.before.before.before.requires c.before.before.loop-left.invariant (more c.before))
 
-loop-holds : tie.Need-loop-init invariant-loop decreases-loop
+loop-left-init : tie.Need-loop-left-init invariant-loop-left decreases-loop-left
 unfolding ids
-loop-holds c = filling_start c.args.word _ (search rules)
+loop-left-init c = filling_start c.args.word _ (search rules)
 
-first-requires : tie.Need-first-requires invariant-loop decreases-loop
-first-requires c κs = search rules
+first-id-requires : tie.Need-first-id-requires invariant-loop-left decreases-loop-left
+first-id-requires c κs = search rules
 
-add_at : tie.Need-overflow-add-at invariant-loop decreases-loop
-add_at c = omega (arith, below c)
+overflow_add-at : tie.Need-overflow_add-at invariant-loop-left decreases-loop-left
+overflow_add-at c = omega (arith, below c)
 
-cast-at : tie.Need-overflow-cast-at invariant-loop decreases-loop
-cast-at c = search rules
+overflow_cast-at : tie.Need-overflow_cast-at invariant-loop-left decreases-loop-left
+overflow_cast-at c = search rules
 
-mul-level-after : tie.Need-overflow-mul-level-after invariant-loop decreases-loop
-mul-level-after c = search rules
+offset_bounds-terms-at : tie.Need-offset_bounds-terms-at invariant-loop-left decreases-loop-left
+offset_bounds-terms-at c = search rules
 
-element-copy-out-level-after : tie.Need-element-copy-out-level-after invariant-loop decreases-loop
-element-copy-out-level-after c = omega (arith, below c)
+bounds-terms-at : tie.Need-bounds-terms-at invariant-loop-left decreases-loop-left
+bounds-terms-at c = omega (arith, below c)
 
-cast-level-after : tie.Need-overflow-cast-level-after invariant-loop decreases-loop
-cast-level-after c = search rules
+overflow_cast-id : tie.Need-overflow_cast-id invariant-loop-left decreases-loop-left
+overflow_cast-id c = search rules
 
-mul-level-after-2 : tie.Need-overflow-mul-level-after-2 invariant-loop decreases-loop
-mul-level-after-2 c = search rules
+offset_bounds-terms-id : tie.Need-offset_bounds-terms-id invariant-loop-left decreases-loop-left
+offset_bounds-terms-id c = search rules
 
-element-copy-out-level-after-2 : tie.Need-element-copy-out-level-after-2 invariant-loop decreases-loop
-element-copy-out-level-after-2 c = omega (arith, below c.before)
+bounds-terms-id : tie.Need-bounds-terms-id invariant-loop-left decreases-loop-left
+bounds-terms-id c = omega (arith, below c.before)
 
-add-level-after : tie.Need-overflow-add-level-after invariant-loop decreases-loop
-add-level-after c = omega (arith, below c.before.before)
+overflow_add-id : tie.Need-overflow_add-id invariant-loop-left decreases-loop-left
+overflow_add-id c = omega (arith, below c.before.before)
 
-cast-level-after-2 : tie.Need-overflow-cast-level-after-2 invariant-loop decreases-loop
-cast-level-after-2 c = search rules
+overflow_cast-id-in-loop-left : tie.Need-overflow_cast-id-in-loop-left invariant-loop-left decreases-loop-left
+overflow_cast-id-in-loop-left c = search rules
 
-mul-level-after-3 : tie.Need-overflow-mul-level-after-3 invariant-loop decreases-loop
-mul-level-after-3 c = search rules
+offset_bounds-terms-id-in-loop-left : tie.Need-offset_bounds-terms-id-in-loop-left invariant-loop-left decreases-loop-left
+offset_bounds-terms-id-in-loop-left c = search rules
 
-element-copy-out-level-after-3 : tie.Need-element-copy-out-level-after-3 invariant-loop decreases-loop
-element-copy-out-level-after-3 c = omega (arith, below c.before.before)
+bounds-terms-id-in-loop-left : tie.Need-bounds-terms-id-in-loop-left invariant-loop-left decreases-loop-left
+bounds-terms-id-in-loop-left c = omega (arith, below c.before.before)
 
-level-after-requires : tie.Need-level-after-requires invariant-loop decreases-loop
+level_after-requires : tie.Need-level_after-requires invariant-loop-left decreases-loop-left
 unfolding field ids
-level-after-requires c κs =
+level_after-requires c κs =
     let at = c.before.before.before in
     let b = bucket at in
-    rw (← (rate_first at.before.before.loop.terms at.first.result)) b
+    rw (← (rate_first at.before.before.loop-left.terms at.first-id.result)) b
 
-mul-terms : tie.Need-overflow-mul-terms invariant-loop decreases-loop
-mul-terms c = search rules
+offset_bounds-terms-at-in-loop-left : tie.Need-offset_bounds-terms-at-in-loop-left invariant-loop-left decreases-loop-left
+offset_bounds-terms-at-in-loop-left c = search rules
 
-element-write-terms : tie.Need-element-write-terms invariant-loop decreases-loop
-element-write-terms c = omega (arith, below c.before.before.before.before)
+bounds-terms-at-in-loop-left : tie.Need-bounds-terms-at-in-loop-left invariant-loop-left decreases-loop-left
+bounds-terms-at-in-loop-left c = omega (arith, below c.before.before.before.before)
 
-rest-requires : tie.Need-rest-requires invariant-loop decreases-loop
-rest-requires c κs = search rules
+rest-left-requires : tie.Need-rest-left-requires invariant-loop-left decreases-loop-left
+rest-left-requires c κs = search rules
 
-loop-less : tie.Need-loop-smaller invariant-loop decreases-loop
-loop-less c = c.rest.ensures.1 (more c.before.before.before.before.before.before)
+loop-left-smaller : tie.Need-loop-left-smaller invariant-loop-left decreases-loop-left
+loop-left-smaller c = c.rest-left.ensures.1 (more c.before.before.before.before.before.before)
 
-loop-again : tie.Need-loop-preserved invariant-loop decreases-loop
+loop-left-preserved : tie.Need-loop-left-preserved invariant-loop-left decreases-loop-left
 unfolding field ids level_after
-loop-again c =
+loop-left-preserved c =
     let top = c.before.before.before.before.before.before in
     let at = c.before.before.before.before.before in
-    rw at.first.ensures
-    (filling_step _ _ _ _ top.before.before.requires top.before.loop.invariant (more top) c.rest.result
-    c.before.level-after.result c.rest.ensures.0 (loop-less c)
-    (c.before.level-after.ensures ∙ rw (rate_first _ _, at.first.ensures)))
+    rw at.first-id.ensures
+    (filling_step _ _ _ _ top.before.before.requires top.before.loop-left.invariant (more top) c.rest-left.result
+    c.before.level_after.result c.rest-left.ensures.0 (loop-left-smaller c)
+    (c.before.level_after.ensures ∙ rw (rate_first _ _, at.first-id.ensures)))
 
-returns : tie.Need-returns invariant-loop decreases-loop
-returns c = filling_done _ _ _ _ c.before.loop.invariant c.loop-test.false
+returns : tie.Need-returns invariant-loop-left decreases-loop-left
+returns c = filling_done _ _ _ _ c.before.loop-left.invariant c.loop-left-test.false
 
-pub refill-marked-spec : {M : Type 1} → statement M
-refill-marked-spec =
+pub refill_marked_spec : {M : Type 1} → statement M
+refill_marked_spec =
     tie.close
     (tie.spec
-    invariant-loop
-    decreases-loop
-    loop-holds
-    first-requires
-    add_at
-    cast-at
-    mul-level-after
-    element-copy-out-level-after
-    cast-level-after
-    mul-level-after-2
-    element-copy-out-level-after-2
-    add-level-after
-    cast-level-after-2
-    mul-level-after-3
-    element-copy-out-level-after-3
-    level-after-requires
-    mul-terms
-    element-write-terms
-    rest-requires
-    loop-less
-    loop-again
+    invariant-loop-left
+    decreases-loop-left
+    loop-left-init
+    first-id-requires
+    overflow_add-at
+    overflow_cast-at
+    offset_bounds-terms-at
+    bounds-terms-at
+    overflow_cast-id
+    offset_bounds-terms-id
+    bounds-terms-id
+    overflow_add-id
+    overflow_cast-id-in-loop-left
+    offset_bounds-terms-id-in-loop-left
+    bounds-terms-id-in-loop-left
+    level_after-requires
+    offset_bounds-terms-at-in-loop-left
+    bounds-terms-at-in-loop-left
+    rest-left-requires
+    loop-left-smaller
+    loop-left-preserved
     returns)

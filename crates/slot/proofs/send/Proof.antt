@@ -12,68 +12,68 @@ use Rattle.slot.proofs.send.Tie as tie
 has-requires : tie.Need-has-requires
 has-requires c κs = search rules
 
-send-packet-requires : tie.Need-send-packet-requires
-send-packet-requires c κs =
+send_packet-requires : tie.Need-send_packet-requires
+send_packet-requires c κs =
     let tested = c.before.before in
     let start = tested.before.before in
-    (start.requires, marked_some _ _ _ start.requires.2 (sym tested.before.has.ensures ∙ tested.if1.true))
+    (start.requires, marked_some _ _ _ start.requires.2 (sym tested.before.has.ensures ∙ tested.if-has.true))
 
-returns : tie.Need-returns
-returns c = search rules
+returns-then-has : tie.Need-returns-then-has
+returns-then-has c = search rules
 
-add_at : tie.Need-overflow-add-at
+overflow_add-at : tie.Need-overflow_add-at
 unfolding ids
-add_at c = omega (arith, c.before.before.requires.2.below)
+overflow_add-at c = omega (arith, c.before.before.requires.2.below)
 
-cast-at : tie.Need-overflow-cast-at
-cast-at c = search rules
+overflow_cast-at : tie.Need-overflow_cast-at
+overflow_cast-at c = search rules
 
-mul-pool : tie.Need-overflow-mul-pool
-mul-pool c = search rules
+offset_bounds-stocks-at : tie.Need-offset_bounds-stocks-at
+offset_bounds-stocks-at c = search rules
 
-element-copy-out-pool : tie.Need-element-copy-out-pool
+bounds-stocks-at : tie.Need-bounds-stocks-at
 unfolding ids
-element-copy-out-pool c = omega (arith, c.before.before.requires.2.below)
+bounds-stocks-at c = omega (arith, c.before.before.requires.2.below)
 
-sub-stocks : tie.Need-overflow-sub-stocks
-sub-stocks c = search rules
+overflow_sub-stocks : tie.Need-overflow_sub-stocks
+overflow_sub-stocks c = search rules
 
-mul-stocks : tie.Need-overflow-mul-stocks
-mul-stocks c = search rules
+offset_bounds-stocks-at-then-pool-gt0 : tie.Need-offset_bounds-stocks-at-then-pool-gt0
+offset_bounds-stocks-at-then-pool-gt0 c = search rules
 
-element-write-stocks : tie.Need-element-write-stocks
+bounds-stocks-at-then-pool-gt0 : tie.Need-bounds-stocks-at-then-pool-gt0
 unfolding ids
-element-write-stocks c = omega (arith, c.before.before.before.before.requires.2.below)
+bounds-stocks-at-then-pool-gt0 c = omega (arith, c.before.before.before.before.requires.2.below)
 
-returns_2 : tie.Need-returns-2
+returns-then-pool-gt0 : tie.Need-returns-then-pool-gt0
 unfolding ids field
-returns_2 c terms counts sender =
+returns-then-pool-gt0 c terms counts sender =
     let tested = c.before.before in
     let start = tested.before.before in
     dummy-spent _ _ _ sender
-    (unmarked_none _ _ _ sender (sym tested.before.has.ensures ∙ tested.if1.false)) c.if2.true
+    (unmarked_none _ _ _ sender (sym tested.before.has.ensures ∙ tested.if-has.false)) c.if-pool-gt0.true
 
-returns-3 : tie.Need-returns-3
+returns : tie.Need-returns
 unfolding ids field
-returns-3 c terms counts sender =
+returns c terms counts sender =
     let tested = c.before.before in
     let start = tested.before.before in
     idle-spent _ _ _ sender
-    (unmarked_none _ _ _ sender (sym tested.before.has.ensures ∙ tested.if1.false)) (omega (arith, c.if2.false))
+    (unmarked_none _ _ _ sender (sym tested.before.has.ensures ∙ tested.if-has.false)) (omega (arith, c.if-pool-gt0.false))
 
-pub send-spec : {M : Type 1} → statement M
-send-spec =
+pub send_spec : {M : Type 1} → statement M
+send_spec =
     tie.close
     (tie.spec
     has-requires
-    send-packet-requires
-    returns
-    add_at
-    cast-at
-    mul-pool
-    element-copy-out-pool
-    sub-stocks
-    mul-stocks
-    element-write-stocks
-    returns_2
-    returns-3)
+    send_packet-requires
+    returns-then-has
+    overflow_add-at
+    overflow_cast-at
+    offset_bounds-stocks-at
+    bounds-stocks-at
+    overflow_sub-stocks
+    offset_bounds-stocks-at-then-pool-gt0
+    bounds-stocks-at-then-pool-gt0
+    returns-then-pool-gt0
+    returns)

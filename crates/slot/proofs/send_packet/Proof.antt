@@ -8,39 +8,39 @@ use Rattle.slot.proofs.PacketSent.{place_inside, first_length, packet_sent}
 use Rattle.slot.proofs.send_packet.Statement.{statement}
 use Rattle.slot.proofs.send_packet.Tie as tie
 
-mul-place : tie.Need-overflow-mul-place
+overflow_mul-place : tie.Need-overflow_mul-place
 unfolding ids
-mul-place c = omega (arith, c.requires.0.2.below)
+overflow_mul-place c = omega (arith, c.requires.0.2.below)
 
-add-place : tie.Need-overflow-add-place
+overflow_add-place : tie.Need-overflow_add-place
 unfolding ids
-add-place c = omega (arith, c.requires.0.2.below)
+overflow_add-place c = omega (arith, c.requires.0.2.below)
 
-cast-place : tie.Need-overflow-cast-place
-cast-place c = search rules
+overflow_cast-place : tie.Need-overflow_cast-place
+overflow_cast-place c = search rules
 
-mul-place-2 : tie.Need-overflow-mul-place-2
-mul-place-2 c = search rules
+offset_bounds-stocks-id : tie.Need-offset_bounds-stocks-id
+offset_bounds-stocks-id c = search rules
 
-element-copy-out-place : tie.Need-element-copy-out-place
+bounds-stocks-id : tie.Need-bounds-stocks-id
 unfolding ids
-element-copy-out-place c = omega (arith, c.requires.0.2.below)
+bounds-stocks-id c = omega (arith, c.requires.0.2.below)
 
-add-place-2 : tie.Need-overflow-add-place-2
+overflow_add-place-2 : tie.Need-overflow_add-place-2
 unfolding ids places field
-add-place-2 c =
+overflow_add-place-2 c =
     let p = c.before.requires.0.2 in
     omega (arith, p.below, p.core.shape.heads c.before.args.id p.below)
 
-packet-at-requires : tie.Need-packet-at-requires
+packet_at-packet-requires : tie.Need-packet_at-packet-requires
 unfolding ids places field
-packet-at-requires c κs = place_inside _ _ _ c.before.requires.0.2 c.before.requires.1
+packet_at-packet-requires c κs = place_inside _ _ _ c.before.requires.0.2 c.before.requires.1
 
-padding-requires : tie.Need-padding-requires
+padding-added-requires : tie.Need-padding-added-requires
 unfolding ids places field
-padding-requires c κs =
+padding-added-requires c κs =
     let start = c.before.before in
-    rw (c.packet-at.ensures start.requires.0.0 start.args.stocks.now start.args.links.now start.requires.0.1)
+    rw (c.packet_at-packet.ensures start.requires.0.0 start.args.stocks.now start.args.links.now start.requires.0.1)
     (first_length _ _ _ start.requires.0.2 start.requires.1)
 
 pop-requires : tie.Need-pop-requires
@@ -48,25 +48,25 @@ pop-requires c κs =
     let p = c.before.before.before.before.requires in
     (p.0.2.below, p.0.2.core.shape.heads _ p.0.2.below, p.1)
 
-leave-order-requires : tie.Need-leave-order-requires
-leave-order-requires c κs = search rules
+leave_order-requires : tie.Need-leave_order-requires
+leave_order-requires c κs = search rules
 
-add-settle : tie.Need-overflow-add-settle
+overflow_add-id : tie.Need-overflow_add-id
 unfolding ids
-add-settle c = omega (arith, c.before.before.before.before.before.before.before.requires.0.2.below)
+overflow_add-id c = omega (arith, c.before.before.before.before.before.before.before.requires.0.2.below)
 
-cast-settle : tie.Need-overflow-cast-settle
-cast-settle c = search rules
+overflow_cast-id : tie.Need-overflow_cast-id
+overflow_cast-id c = search rules
 
-mul-settle : tie.Need-overflow-mul-settle
-mul-settle c = search rules
+offset_bounds-stocks-id-2 : tie.Need-offset_bounds-stocks-id-2
+offset_bounds-stocks-id-2 c = search rules
 
-element-copy-out-settle : tie.Need-element-copy-out-settle
+bounds-stocks-id-2 : tie.Need-bounds-stocks-id-2
 unfolding ids
-element-copy-out-settle c = omega (arith, c.before.before.before.before.before.before.before.requires.0.2.below)
+bounds-stocks-id-2 c = omega (arith, c.before.before.before.before.before.before.before.requires.0.2.below)
 
-settle-requires : tie.Need-settle-requires
-settle-requires c κs = search rules
+settle-after-requires : tie.Need-settle-after-requires
+settle-after-requires c κs = search rules
 
 returns : tie.Need-returns
 unfolding ids places field
@@ -75,27 +75,27 @@ returns c terms counts sender =
     let gone = filed.before.before in
     let got = gone.before.before.before in
     let pre = got.before.before.requires in
-    packet_sent _ _ _ sender pre.1 _ _ _ c.settle.result got.packet-at.result gone.before.before.padding.result
-    gone.pop.ensures filed.leave-order.ensures refl c.settle.ensures (got.packet-at.ensures terms _ _ counts)
-    gone.before.before.padding.ensures
+    packet_sent _ _ _ sender pre.1 _ _ _ c.settle-after.result got.packet_at-packet.result gone.before.before.padding-added.result
+    gone.pop.ensures filed.leave_order.ensures refl c.settle-after.ensures (got.packet_at-packet.ensures terms _ _ counts)
+    gone.before.before.padding-added.ensures
 
-pub send-packet-spec : {M : Type 1} → statement M
-send-packet-spec =
+pub send_packet_spec : {M : Type 1} → statement M
+send_packet_spec =
     tie.close
     (tie.spec
-    mul-place
-    add-place
-    cast-place
-    mul-place-2
-    element-copy-out-place
-    add-place-2
-    packet-at-requires
-    padding-requires
+    overflow_mul-place
+    overflow_add-place
+    overflow_cast-place
+    offset_bounds-stocks-id
+    bounds-stocks-id
+    overflow_add-place-2
+    packet_at-packet-requires
+    padding-added-requires
     pop-requires
-    leave-order-requires
-    add-settle
-    cast-settle
-    mul-settle
-    element-copy-out-settle
-    settle-requires
+    leave_order-requires
+    overflow_add-id
+    overflow_cast-id
+    offset_bounds-stocks-id-2
+    bounds-stocks-id-2
+    settle-after-requires
     returns)

@@ -5,24 +5,24 @@ use Rattle.slot.proofs.TurnDone.{slot_sender, slot_done, nobody_done}
 use Rattle.slot.proofs.spend.Statement.{statement}
 use Rattle.slot.proofs.spend.Tie as tie
 
-with-generator-requires : tie.Need-with-generator-requires
-with-generator-requires c κs = search rules
+with_generator-after-requires : tie.Need-with_generator-after-requires
+with_generator-after-requires c κs = search rules
 
 send-requires : tie.Need-send-requires
 send-requires c κs =
     let tested = c.before.before in
     let pre = tested.before.before.before.before.requires in
-    (pre.0, pre.1, rw tested.before.before.with-generator.ensures (slot_sender _ _ _ pre.2 tested.if1.true))
+    (pre.0, pre.1, rw tested.before.before.with_generator-after.ensures (slot_sender _ _ _ pre.2 tested.if-choice-ne-NOBODY.true))
+
+returns-then-choice-ne-NOBODY : tie.Need-returns-then-choice-ne-NOBODY
+returns-then-choice-ne-NOBODY c terms counts due =
+    let tested = c.before.before.before in
+    let stepped = tested.before.before.with_generator-after.ensures in
+    slot_done _ _ _ due tested.if-choice-ne-NOBODY.true c.send.result _
+    (rw stepped at (c.send.ensures terms counts (rw stepped (slot_sender _ _ _ due tested.if-choice-ne-NOBODY.true))))
 
 returns : tie.Need-returns
-returns c terms counts due =
-    let tested = c.before.before.before in
-    let stepped = tested.before.before.with-generator.ensures in
-    slot_done _ _ _ due tested.if1.true c.send.result _
-    (rw stepped at (c.send.ensures terms counts (rw stepped (slot_sender _ _ _ due tested.if1.true))))
-
-returns_2 : tie.Need-returns-2
-returns_2 c terms counts due = rw c.before.before.with-generator.ensures (nobody_done _ _ _ due c.if1.false)
+returns c terms counts due = rw c.before.before.with_generator-after.ensures (nobody_done _ _ _ due c.if-choice-ne-NOBODY.false)
 
 pub spend_spec : {M : Type 1} → statement M
-spend_spec = tie.close (tie.spec with-generator-requires send-requires returns returns_2)
+spend_spec = tie.close (tie.spec with_generator-after-requires send-requires returns-then-choice-ne-NOBODY returns)

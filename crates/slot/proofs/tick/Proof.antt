@@ -8,70 +8,70 @@ use Rattle.slot.proofs.TickCounts.{tick_refused_counts, tick_sender, tick_counts
 use Rattle.slot.proofs.tick.Statement.{statement}
 use Rattle.slot.proofs.tick.Tie as tie
 
-refused-requires : tie.Need-refused-requires
-refused-requires c κs = search rules
+refused-answered-requires : tie.Need-refused-answered-requires
+refused-answered-requires c κs = search rules
 
 undrawn-requires : tie.Need-undrawn-requires
 undrawn-requires c κs = search rules
 
-returns : tie.Need-returns
-returns c =
+returns-then-not-control : tie.Need-returns-then-not-control
+returns-then-not-control c =
     let said = c.before in
     let start = said.before.before.before in
-    let shut = not-true start.args.control.opened said.before.if1.true in (
-      in_place refl refl (tick_refused_counts _ _ start.requires said.refused.result said.refused.ensures)
-          (tick_refused _ _ start.requires shut said.refused.result said.refused.ensures),
+    let shut = not-true start.args.control.opened said.before.if-not-control.true in (
+      in_place refl refl (tick_refused_counts _ _ start.requires said.refused-answered.result said.refused-answered.ensures)
+          (tick_refused _ _ start.requires shut said.refused-answered.result said.refused-answered.ensures),
       undrawn_draws _ _ start.requires shut c.undrawn.ensures,
     )
 
-turn-requires : tie.Need-turn-requires
-turn-requires c κs =
+turn-choice-requires : tie.Need-turn-choice-requires
+turn-choice-requires c κs =
     let start = c.before.before.before.before in
-    (_, _, _, _, start.requires (not-false start.args.control.opened c.before.before.if1.false))
+    (_, _, _, _, start.requires (not-false start.args.control.opened c.before.before.if-not-control.false))
 
-spend-requires : tie.Need-spend-requires
-spend-requires c κs =
+spend-sent-requires : tie.Need-spend-sent-requires
+spend-sent-requires c κs =
     let tested = c.before.before.before.before.before.before in
     let start = tested.before.before in
-    let core = start.requires (not-false start.args.control.opened tested.if1.false) in
-    (_, _, record { core = core; chosen = c.before.before.before.turn.ensures _ _ _ _ core })
+    let core = start.requires (not-false start.args.control.opened tested.if-not-control.false) in
+    (_, _, record { core = core; chosen = c.before.before.before.turn-choice.ensures _ _ _ _ core })
 
-refill-all-requires : tie.Need-refill-all-requires
-refill-all-requires c κs =
+refill_all-requires : tie.Need-refill_all-requires
+refill_all-requires c κs =
     let tested = c.before.before.before.before.before.before.before.before in
     let valid = tested.before.before.requires in
-    let ready = not-false tested.before.before.args.control.opened tested.if1.false in
-    let chosen = c.before.before.before.before.before.turn.ensures _ _ _ _ (valid ready) in
-    done_refillable _ _ valid ready c.before.spend.result _
-    (c.before.spend.ensures _ _ (record { core = valid ready; chosen = chosen }))
+    let ready = not-false tested.before.before.args.control.opened tested.if-not-control.false in
+    let chosen = c.before.before.before.before.before.turn-choice.ensures _ _ _ _ (valid ready) in
+    done_refillable _ _ valid ready c.before.spend-sent.result _
+    (c.before.spend-sent.ensures _ _ (record { core = valid ready; chosen = chosen }))
 
 send-requires : tie.Need-send-requires
 send-requires c κs =
     let spent = c.before.before.before.before in
     let tested = spent.before.before.before.before.before.before.before in
     let valid = tested.before.before.requires in
-    let ready = not-false tested.before.before.args.control.opened tested.if1.false in
-    let chosen = spent.before.before.before.before.turn.ensures _ _ _ _ (valid ready) in
-    tick_sender _ _ valid ready spent.spend.result _ (spent.spend.ensures _ _ (record { core = valid ready; chosen = chosen }))
+    let ready = not-false tested.before.before.args.control.opened tested.if-not-control.false in
+    let chosen = spent.before.before.before.before.turn-choice.ensures _ _ _ _ (valid ready) in
+    tick_sender _ _ valid ready spent.spend-sent.result _ (spent.spend-sent.ensures _ _ (record { core = valid ready; chosen = chosen }))
 
-returns_2 : tie.Need-returns-2
-returns_2 c =
+returns : tie.Need-returns
+returns c =
     let refilled = c.before.before.before in
     let spent = refilled.before.before in
     let tested = spent.before.before.before.before.before.before.before in
     let valid = tested.before.before.requires in
-    let ready = not-false tested.before.before.args.control.opened tested.if1.false in
-    let turn = spent.before.before.before.before.turn in
+    let ready = not-false tested.before.before.args.control.opened tested.if-not-control.false in
+    let turn = spent.before.before.before.before.turn-choice in
     let chosen = turn.ensures _ _ _ _ (valid ready) in
-    let done = spent.spend.ensures _ _ (record { core = valid ready; chosen = chosen }) in (
-      in_place refl refl (tick_counts _ _ valid ready spent.spend.result _ done _ _ refl c.send.ensures)
+    let done = spent.spend-sent.ensures _ _ (record { core = valid ready; chosen = chosen }) in (
+      in_place refl refl (tick_counts _ _ valid ready spent.spend-sent.result _ done _ _ refl c.send.ensures)
           (meets_recounted c.send.ensures.size
-          (tick_done _ _ valid ready spent.spend.result _ done _ refilled.refill-all.ensures _ refl)),
+          (tick_done _ _ valid ready spent.spend-sent.result _ done _ refilled.refill_all.ensures _ refl)),
       turn_draws _ _ valid ready turn.result chosen,
     )
 
-pub tick-spec : {M : Type 1} → statement M
-tick-spec =
+pub tick_spec : {M : Type 1} → statement M
+tick_spec =
     tie.close
-    (tie.spec refused-requires undrawn-requires returns turn-requires spend-requires refill-all-requires send-requires
-    returns_2)
+    (tie.spec refused-answered-requires undrawn-requires returns-then-not-control turn-choice-requires spend-sent-requires refill_all-requires send-requires
+    returns)

@@ -8,25 +8,25 @@ use Rattle.definitions.specs.Sizes.{places}
 use Rattle.slot.proofs.turn.Statement.{statement}
 use Rattle.slot.proofs.turn.Tie as tie
 
-both-requires : tie.Need-both-requires
-both-requires c κs = search rules
+both-contenders-requires : tie.Need-both-contenders-requires
+both-contenders-requires c κs = search rules
 
 any-requires : tie.Need-any-requires
 any-requires c κs = search rules
 
-total-requires : tie.Need-total-requires
-total-requires c κs = search rules
+total-total-requires : tie.Need-total-total-requires
+total-total-requires c κs = search rules
 
-draw-among-requires : tie.Need-draw-among-requires
-draw-among-requires c κs = c.total.ensures
+draw_among-requires : tie.Need-draw_among-requires
+draw_among-requires c κs = c.total-total.ensures
 
-returns : tie.Need-returns
-returns c k h l n core =
+returns-then-control-ne-FIRST_COME : tie.Need-returns-then-control-ne-FIRST_COME
+returns-then-control-ne-FIRST_COME c k h l n core =
     let tested = c.before.before.before.before in
     let both = tested.before.before in
-    chosen_contender _ _ core both.both.result both.both.ensures
-    (sym tested.before.any.ensures ∙ tested.if1.true) c.before.before.if2.true c.draw-among.result
-    c.draw-among.ensures
+    chosen_contender _ _ core both.both-contenders.result both.both-contenders.ensures
+    (sym tested.before.any.ensures ∙ tested.if-any.true) c.before.before.if-control-ne-FIRST_COME.true c.draw_among.result
+    c.draw_among.ensures
 
 front-requires : tie.Need-front-requires
 front-requires c κs = search rules
@@ -34,61 +34,61 @@ front-requires c κs = search rules
 undrawn-requires : tie.Need-undrawn-requires
 undrawn-requires c κs = search rules
 
-returns_2 : tie.Need-returns-2
+returns-then-any : tie.Need-returns-then-any
 unfolding places
-returns_2 c k h l n core =
+returns-then-any c k h l n core =
     let fronted = c.before in
     let tested = fronted.before.before.before in
     let both = tested.before.before in
-    chosen_earliest _ _ core both.both.result both.both.ensures
-    (sym tested.before.any.ensures ∙ tested.if1.true) fronted.before.if2.false fronted.front.result
+    chosen_earliest _ _ core both.both-contenders.result both.both-contenders.ensures
+    (sym tested.before.any.ensures ∙ tested.if-any.true) fronted.before.if-control-ne-FIRST_COME.false fronted.front.result
     (fronted.front.ensures.1 _ core.shape.ordered) _ refl refl c.undrawn.ensures
 
 any-requires-2 : tie.Need-any-requires-2
 any-requires-2 c κs = search rules
 
-private-total-requires : tie.Need-private-total-requires
-private-total-requires c κs = held_by_both _ _ c.before.before.before.before.before.before.requires.4
+private_total-total-requires : tie.Need-private_total-total-requires
+private_total-total-requires c κs = held_by_both _ _ c.before.before.before.before.before.before.requires.4
 
-draw-among-requires-2 : tie.Need-draw-among-requires-2
-draw-among-requires-2 c κs = c.private-total.ensures
+draw_among-requires-then-any-2 : tie.Need-draw_among-requires-then-any-2
+draw_among-requires-then-any-2 c κs = c.private_total-total.ensures
 
-returns-3 : tie.Need-returns-3
-returns-3 c k h l n core =
+returns-then-any-2 : tie.Need-returns-then-any-2
+returns-then-any-2 c k h l n core =
     let tested = c.before.before.before.before in
     let both = tested.before.before in
-    chosen_private _ _ core both.both.result both.both.ensures
-    (sym tested.before.any.ensures ∙ tested.if1.false)
-    (sym c.before.before.before.any2.ensures ∙ c.before.before.if3.true) c.draw-among2.result
-    c.draw-among2.ensures
+    chosen_private _ _ core both.both-contenders.result both.both-contenders.ensures
+    (sym tested.before.any.ensures ∙ tested.if-any.false)
+    (sym c.before.before.before.any-2.ensures ∙ c.before.before.if-any-2.true) c.draw_among-then-any-2.result
+    c.draw_among-then-any-2.ensures
 
 undrawn-requires-2 : tie.Need-undrawn-requires-2
 undrawn-requires-2 c κs = search rules
 
-returns-4 : tie.Need-returns-4
-returns-4 c k h l n core =
+returns : tie.Need-returns
+returns c k h l n core =
     let last = c.before in
     let tested = last.before.before in
     let both = tested.before.before in
-    chosen_nobody _ _ core both.both.result both.both.ensures
-    (sym tested.before.any.ensures ∙ tested.if1.false) (sym last.before.any2.ensures ∙ last.if3.false) _ refl refl
-    c.undrawn2.ensures
+    chosen_nobody _ _ core both.both-contenders.result both.both-contenders.ensures
+    (sym tested.before.any.ensures ∙ tested.if-any.false) (sym last.before.any-2.ensures ∙ last.if-any-2.false) _ refl refl
+    c.undrawn-2.ensures
 
 pub turn_spec : {M : Type 1} → statement M
 turn_spec =
     tie.close
     (tie.spec
-    both-requires
+    both-contenders-requires
     any-requires
-    total-requires
-    draw-among-requires
-    returns
+    total-total-requires
+    draw_among-requires
+    returns-then-control-ne-FIRST_COME
     front-requires
     undrawn-requires
-    returns_2
+    returns-then-any
     any-requires-2
-    private-total-requires
-    draw-among-requires-2
-    returns-3
+    private_total-total-requires
+    draw_among-requires-then-any-2
+    returns-then-any-2
     undrawn-requires-2
-    returns-4)
+    returns)

@@ -22,172 +22,173 @@ use Rattle.traffic.proofs.ArrivePromise.{arrive_dropped, arrive_refused_counts, 
 use Rattle.traffic.proofs.ArrivePromise.{arrive_sound, arrive_below, arrive_short, arrive_room, arrive_paid}
 use Rattle.traffic.proofs.arrive.Statement.{statement}
 use Rattle.traffic.proofs.arrive.Tie as tie
+use Rattle.traffic.proofs.arrive.Lts.{then-has, else-has}
 
-arrive-number-requires : tie.Need-arrive-number-requires
-arrive-number-requires c κs = search rules
+arrive_number-number-requires : tie.Need-arrive_number-number-requires
+arrive_number-number-requires c κs = search rules
 
 drop-requires : tie.Need-drop-requires
 drop-requires c κs =
-    let counted = c.before.before in
-    let start = counted.before.before.before in
-    arrive_dropped start.args.control _ start.requires start.args.id start.args.packet _ (counted.arrive-number.ensures _ _ _ _)
+    let counted = c in
+    let start = counted in
+    arrive_dropped start.args.control _ start.requires start.args.id start.args.packet _ (counted.arrive_number-number.ensures _ _ _ _)
 
 refused-requires : tie.Need-refused-requires
 refused-requires c κs = search rules
 
-returns : tie.Need-returns
-returns c =
-    let dropped = c.before in
-    let tested = dropped.before.before in
-    let start = tested.before.before.before.before in
-    let number = tested.before.arrive-number.ensures _ _ _ _ in
+returns-then-number-ne0 : tie.Need-returns-then-number-ne0
+returns-then-number-ne0 c =
+    let dropped = c in
+    let tested = dropped in
+    let start = tested in
+    let number = tested.arrive_number-number.ensures _ _ _ _ in
     in_place refl refl
     (arrive_refused_counts start.args.control _ start.requires start.args.id start.args.packet c.refused.result _ _
     c.refused.ensures number dropped.drop.ensures)
     (meets_recounted dropped.drop.ensures.size
     (arrive_refused start.args.control _ start.requires start.args.id start.args.packet c.refused.result _
-    c.refused.ensures number tested.if1.true))
+    c.refused.ensures number tested.if-number-ne0.true))
 
 -- what is known where no check failed
-abbrev entry : tie.Else1 → Tables
+abbrev entry : tie.Else-number-ne0 → Tables
 entry c =
-    let a = c.before.before.before.before.args in
+    let a = c.args in
     tables a.terms.now a.stocks.now a.handles.now a.lengths.now a.links.now a.counts.now
 
-none : (c : tie.Else1) →
-    let a = c.before.before.before.before.args in
+none : (c : tie.Else-number-ne0) →
+    let a = c.args in
     refusal a.control (entry c) (λ s. arrive_checks s a.id a.packet) ≡ 0
-none c = sym (c.before.arrive-number.ensures _ _ _ _) ∙ c.if1.false
+none c = sym (c.arrive_number-number.ensures _ _ _ _) ∙ c.if-number-ne0.false
 
-abbrev shape : (c : tie.Else1) → let a = c.before.before.before.before.args in Shape a.control (entry c)
+abbrev shape : (c : tie.Else-number-ne0) → let a = c.args in Shape a.control (entry c)
 shape c =
-    let start = c.before.before.before.before in
+    let start = c in
     (arrive_sound start.args.control (entry c) start.requires start.args.id start.args.packet (none c)).shape
 
-below : (c : tie.Else1) → let a = c.before.before.before.before.args in a.id < ids
+below : (c : tie.Else-number-ne0) → let a = c.args in a.id < ids
 below c =
-    let start = c.before.before.before.before in
+    let start = c in
     arrive_below start.args.control (entry c) start.requires start.args.id start.args.packet (none c)
 
-room : (c : tie.Else1) → let a = c.before.before.before.before.args in count_at a.stocks.now a.id < places
+room : (c : tie.Else-number-ne0) → let a = c.args in count_at a.stocks.now a.id < places
 room c =
-    let start = c.before.before.before.before in
+    let start = c in
     arrive_room start.args.control (entry c) start.requires start.args.id start.args.packet (none c)
 
-short : (c : tie.Else1) → c.before.before.before.before.args.packet.length ≤ longest
+short : (c : tie.Else-number-ne0) → c.args.packet.length ≤ longest
 short c =
-    let start = c.before.before.before.before in
+    let start = c in
     arrive_short start.args.control (entry c) start.requires start.args.id start.args.packet (none c)
 
-free-place-requires : tie.Need-free-place-requires
-free-place-requires c κs = (below c.before, (shape c.before).heads _ (below c.before), room c.before)
+free_place-place-requires : tie.Need-free_place-place-requires
+free_place-place-requires c κs = (below c, (shape c).heads _ (below c), room c)
 
 keep-requires : tie.Need-keep-requires
 keep-requires c κs =
-    let e = c.before.before.before.before in
-    (rw c.before.before.free-place.ensures (place_stored (entry e) _ (below e)), short e)
+    let e = c in
+    (rw c.free_place-place.ensures (place_stored (entry c.before.before.before) _ (below c.before.before.before)), short c.before.before.before)
 
-count-up-requires : tie.Need-count-up-requires
-count-up-requires c κs =
-    let e = c.before.before.before.before.before.before in
-    (below e, room e)
+count_up-requires : tie.Need-count_up-requires
+count_up-requires c κs =
+    let e = c in
+    (below c.before.before.before.before.before, room c.before.before.before.before.before)
 
 has-requires : tie.Need-has-requires
 has-requires c κs = search rules
 
 -- what the test for an indifferent client says
 same : (c : tie.After-has) →
-    let a = c.before.before.before.before.before.before.before.before.before.before.before.before.args in
+    let a = c.args in
     is_indifferent (kind_at a.control a.id) ≡ c.has.result
 same c =
-    let a = c.before.before.before.before.before.before.before.before.before.before.before.before.args in
+    let a = c.args in
     kind_indifferent a.control a.id ∙ sym c.has.ensures
 
 charge-requires : tie.Need-charge-requires
 charge-requires c κs =
-    let has = c.before.before in
-    let e = has.before.before.before.before.before.before.before.before in
-    let start = e.before.before.before.before in
-    let owes = same has ∙ c.before.if2.true in (
-      below e,
-      arrive_paid start.args.control (entry e) start.requires start.args.id start.args.packet (none e) owes,
+    let has = c in
+    let e = has in
+    let start = e in
+    let owes = same c.before.before ∙ c.if-has.true in (
+      below c.before.before.before.before.before.before.before.before.before,
+      arrive_paid start.args.control (entry c.before.before.before.before.before.before.before.before.before) start.requires start.args.id start.args.packet (none c.before.before.before.before.before.before.before.before.before) owes,
     )
 
 push-requires : tie.Need-push-requires
 push-requires c κs =
-    let has = c.before.before.before.before in
-    (shape has.before.before.before.before.before.before.before.before).sound
+    let has = c in
+    (shape c.before.before.before.before.before.before.before.before.before.before.before).sound
 
 -- on either way, the terms and the links are as they should be
-met : (c : tie.Joined2) →
-    let e = c.before.before.before.before.before.before.before.before.before in
-    let a = e.before.before.before.before.args in
-    (c.if2.terms ≡ charged_terms a.control (entry e) a.id)
-    × Lined a.control (entry e) a.id (shape e).order c.if2.links
+met : (c : tie.Joined-has) →
+    let e = c in
+    let a = e.args in
+    (c.if-has.terms ≡ charged_terms a.control (entry c.before.before.before.before.before.before.before.before) a.id)
+    × Lined a.control (entry c.before.before.before.before.before.before.before.before) a.id (shape c.before.before.before.before.before.before.before.before).order c.if-has.links
 met c =
-    let e = c.before.before.before.before.before.before.before.before.before in
-    let a = e.before.before.before.before.args in
-    let free = c.before.before.before.before.before.before.before.free-place in
-    ⊎_elim
-    (λ w.
-    let owes = same c.before ∙ w.0.taken in (
-      rw owes (w.5 ∙ w.2.ensures),
-      rw w.6
-          (lined_indifferent a.control (entry e) (shape e) a.id (below e) (room e) owes _ _ free.ensures
-          w.4.ensures.0 w.4.ensures.1),
-    ))
-    (λ w.
-    let keeps = same c.before ∙ w.0.left in
-    (rw keeps w.1, rw w.2 (lined_private a.control (entry e) (shape e) a.id keeps)))
-    c.if2.branch
+    let e = c in
+    let a = e.args in
+    let free = c.free_place-place in
+    elim c.if-has.branch [
+      then-has w ↦
+    let owes = same c.before ∙ w.if-has.true in (
+      rw owes (w.terms-is ∙ w.charge.ensures),
+      rw w.links-is
+          (lined_indifferent a.control (entry c.before.before.before.before.before.before.before.before) (shape c.before.before.before.before.before.before.before.before) a.id (below c.before.before.before.before.before.before.before.before) (room c.before.before.before.before.before.before.before.before) owes _ _ free.ensures
+          w.push.ensures.0 w.push.ensures.1),
+    )
+      | else-has w ↦
+    let keeps = same c.before ∙ w.if-has.false in
+    (rw keeps w.terms-is, rw w.links-is (lined_private a.control (entry c.before.before.before.before.before.before.before.before) (shape c.before.before.before.before.before.before.before.before) a.id keeps))
+    ]
 
 mark-requires : tie.Need-mark-requires
 mark-requires c κs = search rules
 
 raise-requires : tie.Need-raise-requires
 raise-requires c κs =
-    let join = c.before.before in
-    (below join.before.before.before.before.before.before.before.before.before, lit< tt)
+    let join = c in
+    (below c.before.before.before.before.before.before.before.before.before.before, lit< tt)
 
 accepted-requires : tie.Need-accepted-requires
 accepted-requires c κs = search rules
 
-returns_2 : tie.Need-returns-2
+returns : tie.Need-returns
 unfolding is_accepted column
-returns_2 c =
-    let raised = c.before in
-    let marked = raised.before.before in
-    let join = marked.before in
-    let e = join.before.before.before.before.before.before.before.before.before in
-    let start = e.before.before.before.before in
-    let kept = join.before.before.before.before.keep in
-    let free = join.before.before.before.before.before.before.before.free-place in
-    let counted = join.before.before.count-up in
+returns c =
+    let raised = c in
+    let marked = raised in
+    let join = marked in
+    let e = join in
+    let start = e in
+    let kept = join.keep in
+    let free = join.free_place-place in
+    let counted = join.count_up in
     let entries = raised.raise.ensures count_accepted refl in
     with_places c.accepted.ensures refl
-    (arrive_counts start.args.control (entry e) start.requires start.args.id start.args.packet (none e)
+    (arrive_counts start.args.control (entry c.before.before.before.before.before.before.before.before.before.before.before.before) start.requires start.args.id start.args.packet (none c.before.before.before.before.before.before.before.before.before.before.before.before)
     marked.mark.result c.accepted.result _ c.accepted.ensures entries)
-    (rw ((met join).0, counted.ensures, kept.ensures.0, kept.ensures.1, free.ensures)
+    (rw ((met c.before.before.before.before).0, counted.ensures, kept.ensures.0, kept.ensures.1, free.ensures)
     (meets_recounted entries.size
-    (arrive_accepted start.args.control (entry e) start.requires start.args.id start.args.packet (none e)
-    join.if2.links marked.mark.result (met join).1 marked.mark.ensures c.accepted.result
+    (arrive_accepted start.args.control (entry c.before.before.before.before.before.before.before.before.before.before.before.before) start.requires start.args.id start.args.packet (none c.before.before.before.before.before.before.before.before.before.before.before.before)
+    join.if-has.links marked.mark.result (met c.before.before.before.before).1 marked.mark.ensures c.accepted.result
     c.accepted.ensures)))
 
-pub arrive-spec : {M : Type 1} → statement M
-arrive-spec =
+pub arrive_spec : {M : Type 1} → statement M
+arrive_spec =
     tie.close
     (tie.spec
-    arrive-number-requires
+    arrive_number-number-requires
     drop-requires
     refused-requires
-    returns
-    free-place-requires
+    returns-then-number-ne0
+    free_place-place-requires
     keep-requires
-    count-up-requires
+    count_up-requires
     has-requires
     charge-requires
     push-requires
     mark-requires
     raise-requires
     accepted-requires
-    returns_2)
+    returns)

@@ -20,16 +20,16 @@ use Rattle.tables.proofs.ActiveChecks.{active_failed, active_below, active_rest}
 use Rattle.traffic.proofs.arrive_number.Statement.{statement}
 use Rattle.traffic.proofs.arrive_number.Tie as tie
 
-active-number-requires : tie.Need-active-number-requires
-active-number-requires c κs = search rules
+active_number-number-requires : tie.Need-active_number-number-requires
+active_number-number-requires c κs = search rules
 
-returns : tie.Need-returns
+returns-then-number-ne0 : tie.Need-returns-then-number-ne0
 unfolding arrive_checks
-returns c handles lengths links counts =
-    let a = c.before.before.args in
-    active_failed a.control a.id _ c.before.active-number.ensures
+returns-then-number-ne0 c handles lengths links counts =
+    let a = c.args in
+    active_failed a.control a.id _ c.active_number-number.ensures
     (tables a.terms.now a.stocks.now handles lengths links counts) _
-    c.if1.true
+    c.if-number-ne0.true
 
 -- the numbers behind 19, 4 and 5, by the packet's length, the id's count, whether it is indifferent, and its level
 abbrev by_level : Bool → ℕ → ℕ
@@ -43,140 +43,140 @@ by_length length count indifferent level =
     cond (leb shortest length && leb length longest) (by_count count indifferent level) 13
 
 -- once the id is known to be active
-below : (c : tie.Else1) → c.before.before.args.id < ids
+below : (c : tie.Else-number-ne0) → c.args.id < ids
 below c =
-    let a = c.before.before.args in
-    active_below a.control a.id _ c.before.active-number.ensures c.if1.false
+    let a = c.args in
+    active_below a.control a.id _ c.active_number-number.ensures c.if-number-ne0.false
 
-rest : (c : tie.Else1) (handles lengths links counts : List ℕ) →
-    let a = c.before.before.args in
+rest : (c : tie.Else-number-ne0) (handles lengths links counts : List ℕ) →
+    let a = c.args in
     refusal a.control (tables a.terms.now a.stocks.now handles lengths links counts) (λ s. arrive_checks s a.id a.packet)
     ≡ by_length a.packet.length (count_at a.stocks.now a.id) (marked a.control.indifferent a.id)
     (level_at a.terms.now a.id)
 unfolding arrive_checks first_failed within state_of clients_of client_at side_of stocks_of stock_at
 rest c handles lengths links counts =
-    let a = c.before.before.args in
+    let a = c.args in
     let t = tables a.terms.now a.stocks.now handles lengths links counts in
-    active_rest a.control a.id _ c.before.active-number.ensures c.if1.false t _
+    active_rest a.control a.id _ c.active_number-number.ensures c.if-number-ne0.false t _
     ∙ rw (lt-ltb a.id ids (below c), kind_indifferent a.control a.id, queue_length t a.id)
 
-returns_2 : tie.Need-returns-2
+returns-then-packet-lt-SHORTEST : tie.Need-returns-then-packet-lt-SHORTEST
 unfolding shortest
-returns_2 c handles lengths links counts =
-    let a = c.before.before.before.before.args in
-    let short : a.packet.length < shortest = omega (arith, c.if2.true) in
+returns-then-packet-lt-SHORTEST c handles lengths links counts =
+    let a = c.args in
+    let short : a.packet.length < shortest = omega (arith, c.if-packet-lt-SHORTEST.true) in
     sym (rest c.before.before handles lengths links counts ∙ rw (lt-leb _ _ short))
 
-long-enough : (c : tie.Else2) → shortest ≤ c.before.before.before.before.args.packet.length
+long-enough : (c : tie.Else-packet-lt-SHORTEST) → shortest ≤ c.args.packet.length
 unfolding shortest
-long-enough c = omega (arith, c.if2.false)
+long-enough c = omega (arith, c.if-packet-lt-SHORTEST.false)
 
-returns-3 : tie.Need-returns-3
+returns-then-packet-gt-LONGEST : tie.Need-returns-then-packet-gt-LONGEST
 unfolding longest
-returns-3 c handles lengths links counts =
-    let a = c.before.before.before.before.before.before.args in
-    let long : longest < a.packet.length = omega (arith, c.if3.true) in
+returns-then-packet-gt-LONGEST c handles lengths links counts =
+    let a = c.args in
+    let long : longest < a.packet.length = omega (arith, c.if-packet-gt-LONGEST.true) in
     sym (rest c.before.before.before.before handles lengths links counts
     ∙ rw (le-leb _ _ (long-enough c.before.before), lt-leb _ _ long))
 
 -- and the length to fit
-fits : (c : tie.Else3) (handles lengths links counts : List ℕ) →
-    let a = c.before.before.before.before.before.before.args in
+fits : (c : tie.Else-packet-gt-LONGEST) (handles lengths links counts : List ℕ) →
+    let a = c.args in
     refusal a.control (tables a.terms.now a.stocks.now handles lengths links counts) (λ s. arrive_checks s a.id a.packet)
     ≡ by_count (count_at a.stocks.now a.id) (marked a.control.indifferent a.id) (level_at a.terms.now a.id)
 unfolding longest
 fits c handles lengths links counts =
-    let a = c.before.before.before.before.before.before.args in
-    let short-enough : a.packet.length ≤ longest = omega (arith, c.if3.false) in
+    let a = c.args in
+    let short-enough : a.packet.length ≤ longest = omega (arith, c.if-packet-gt-LONGEST.false) in
     rest c.before.before.before.before handles lengths links counts
     ∙ rw (le-leb _ _ (long-enough c.before.before), le-leb _ _ short-enough)
 
-add-if4 : tie.Need-overflow-add-if4
+overflow_add-id : tie.Need-overflow_add-id
 unfolding ids
-add-if4 c = record { fits = omega (arith, below c.before.before.before.before) }
+overflow_add-id c = record { fits = omega (arith, below c.before.before.before.before) }
 
-cast-if4 : tie.Need-overflow-cast-if4
-cast-if4 c = search rules
+overflow_cast-id : tie.Need-overflow_cast-id
+overflow_cast-id c = search rules
 
-mul-if4 : tie.Need-overflow-mul-if4
-mul-if4 c = search rules
+offset_bounds-stocks-id : tie.Need-offset_bounds-stocks-id
+offset_bounds-stocks-id c = search rules
 
-element-copy-out-if4 : tie.Need-element-copy-out-if4
+bounds-stocks-id : tie.Need-bounds-stocks-id
 unfolding ids
-element-copy-out-if4 c = omega (arith, below c.before.before.before.before)
+bounds-stocks-id c = omega (arith, below c.before.before.before.before.before)
 
-returns-4 : tie.Need-returns-4
+returns-then-stocks-id-ge-PLACES : tie.Need-returns-then-stocks-id-ge-PLACES
 unfolding places field ids
-returns-4 c handles lengths links counts =
-    let a = c.before.before.before.before.before.before.before.before.args in
-    let full : places ≤ count_at a.stocks.now a.id = omega (arith, c.if4.true) in
-    sym (fits c.before.before handles lengths links counts ∙ rw (le-ltb _ _ full))
+returns-then-stocks-id-ge-PLACES c handles lengths links counts =
+    let a = c.args in
+    let full : places ≤ count_at a.stocks.now a.id = omega (arith, c.if-stocks-id-ge-PLACES.true) in
+    sym (fits c.before.before.before handles lengths links counts ∙ rw (le-ltb _ _ full))
 
 has-requires : tie.Need-has-requires
 has-requires c κs = search rules
 
 -- and a place to be left
 room : (c : tie.After-has) (handles lengths links counts : List ℕ) →
-    let a = c.before.before.before.before.before.before.before.before.before.args in
+    let a = c.args in
     refusal a.control (tables a.terms.now a.stocks.now handles lengths links counts) (λ s. arrive_checks s a.id a.packet)
     ≡ by_level c.has.result (level_at a.terms.now a.id)
 unfolding places field ids
 room c handles lengths links counts =
-    let a = c.before.before.before.before.before.before.before.before.before.args in
-    let left : count_at a.stocks.now a.id < places = omega (arith, c.before.if4.false) in
-    fits c.before.before.before handles lengths links counts ∙ rw (lt-ltb _ _ left, sym c.has.ensures)
+    let a = c.args in
+    let left : count_at a.stocks.now a.id < places = omega (arith, c.if-stocks-id-ge-PLACES.false) in
+    fits c.before.before.before.before handles lengths links counts ∙ rw (lt-ltb _ _ left, sym c.has.ensures)
 
-returns-5 : tie.Need-returns-5
-returns-5 c handles lengths links counts = sym (room c.before handles lengths links counts ∙ rw c.if5.true)
+returns-then-not-has : tie.Need-returns-then-not-has
+returns-then-not-has c handles lengths links counts = sym (room c.before handles lengths links counts ∙ rw c.if-not-has.true-raw)
 
-add-if6 : tie.Need-overflow-add-if6
+overflow_add-id-2 : tie.Need-overflow_add-id-2
 unfolding ids
-add-if6 c = record { fits = omega (arith, below c.before.before.before.before.before.before.before.before) }
+overflow_add-id-2 c = record { fits = omega (arith, below c.before.before.before.before.before.before.before.before.before) }
 
-cast-if6 : tie.Need-overflow-cast-if6
-cast-if6 c = search rules
+overflow_cast-id-2 : tie.Need-overflow_cast-id-2
+overflow_cast-id-2 c = search rules
 
-mul-if6 : tie.Need-overflow-mul-if6
-mul-if6 c = search rules
+offset_bounds-terms-id : tie.Need-offset_bounds-terms-id
+offset_bounds-terms-id c = search rules
 
-element-copy-out-if6 : tie.Need-element-copy-out-if6
+bounds-terms-id : tie.Need-bounds-terms-id
 unfolding ids
-element-copy-out-if6 c = omega (arith, below c.before.before.before.before.before.before.before.before)
+bounds-terms-id c = omega (arith, below c.before.before.before.before.before.before.before.before.before.before)
 
-returns-6 : tie.Need-returns-6
+returns-then-terms-id-lt-SHARES : tie.Need-returns-then-terms-id-lt-SHARES
 unfolding shares field ids
-returns-6 c handles lengths links counts =
-    let has = c.before.before.before in
-    let a = has.before.before.before.before.before.before.before.before.before.args in
-    let poor : level_at a.terms.now a.id < shares = omega (arith, c.if6.true) in
-    sym (room has handles lengths links counts ∙ rw (c.before.before.if5.false, lt-leb _ _ poor))
+returns-then-terms-id-lt-SHARES c handles lengths links counts =
+    let has = c in
+    let a = has.args in
+    let poor : level_at a.terms.now a.id < shares = omega (arith, c.if-terms-id-lt-SHARES.true) in
+    sym (room c.before.before.before.before handles lengths links counts ∙ rw (c.if-not-has.false-raw, lt-leb _ _ poor))
 
-returns-7 : tie.Need-returns-7
+returns : tie.Need-returns
 unfolding shares field ids
-returns-7 c handles lengths links counts =
-    let has = c.before.before.before in
-    let a = has.before.before.before.before.before.before.before.before.before.args in
-    let pays : shares ≤ level_at a.terms.now a.id = omega (arith, c.if6.false) in
-    sym (room has handles lengths links counts ∙ rw (c.before.before.if5.false, le-leb _ _ pays))
+returns c handles lengths links counts =
+    let has = c in
+    let a = has.args in
+    let pays : shares ≤ level_at a.terms.now a.id = omega (arith, c.if-terms-id-lt-SHARES.false) in
+    sym (room c.before.before.before.before handles lengths links counts ∙ rw (c.if-not-has.false-raw, le-leb _ _ pays))
 
-pub arrive-number-spec : {M : Type 1} → statement M
-arrive-number-spec =
+pub arrive_number_spec : {M : Type 1} → statement M
+arrive_number_spec =
     tie.close
     (tie.spec
-    active-number-requires
-    returns
-    returns_2
-    returns-3
-    add-if4
-    cast-if4
-    mul-if4
-    element-copy-out-if4
-    returns-4
+    active_number-number-requires
+    returns-then-number-ne0
+    returns-then-packet-lt-SHORTEST
+    returns-then-packet-gt-LONGEST
+    overflow_add-id
+    overflow_cast-id
+    offset_bounds-stocks-id
+    bounds-stocks-id
+    returns-then-stocks-id-ge-PLACES
     has-requires
-    returns-5
-    add-if6
-    cast-if6
-    mul-if6
-    element-copy-out-if6
-    returns-6
-    returns-7)
+    returns-then-not-has
+    overflow_add-id-2
+    overflow_cast-id-2
+    offset_bounds-terms-id
+    bounds-terms-id
+    returns-then-terms-id-lt-SHARES
+    returns)

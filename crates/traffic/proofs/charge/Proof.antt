@@ -6,44 +6,44 @@ use Rattle.tables.specs.Tables.{field}
 use Rattle.traffic.proofs.charge.Statement.{statement}
 use Rattle.traffic.proofs.charge.Tie as tie
 
-add_at : tie.Need-overflow-add-at
+overflow_add-at : tie.Need-overflow_add-at
 unfolding ids shares field
-add_at c = search rules
+overflow_add-at c = search rules
 
-cast-at : tie.Need-overflow-cast-at
-cast-at c = search rules
+overflow_cast-at : tie.Need-overflow_cast-at
+overflow_cast-at c = search rules
 
-mul-terms : tie.Need-overflow-mul-terms
-mul-terms c = search rules
+offset_bounds-terms-at : tie.Need-offset_bounds-terms-at
+offset_bounds-terms-at c = search rules
 
-element-copy-out-terms : tie.Need-element-copy-out-terms
+bounds-terms-at : tie.Need-bounds-terms-at
 unfolding ids shares field
-element-copy-out-terms c = search rules
+bounds-terms-at c = search rules
 
-sub-terms : tie.Need-overflow-sub-terms
+overflow_sub-terms : tie.Need-overflow_sub-terms
 unfolding ids shares field
-sub-terms c = search rules
+overflow_sub-terms c = search rules
 
-mul-terms-2 : tie.Need-overflow-mul-terms-2
-mul-terms-2 c = search rules
+offset_bounds-terms-at-2 : tie.Need-offset_bounds-terms-at-2
+offset_bounds-terms-at-2 c = search rules
 
-element-write-terms : tie.Need-element-write-terms
+bounds-terms-at-2 : tie.Need-bounds-terms-at-2
 unfolding ids shares field
-element-write-terms c = search rules
+bounds-terms-at-2 c = search rules
 
 returns : tie.Need-returns
 unfolding ids shares field
 returns c = search rules
 
-pub charge-spec : {M : Type 1} → statement M
-charge-spec =
+pub charge_spec : {M : Type 1} → statement M
+charge_spec =
     tie.close
     (tie.spec
-    add_at
-    cast-at
-    mul-terms
-    element-copy-out-terms
-    sub-terms
-    mul-terms-2
-    element-write-terms
+    overflow_add-at
+    overflow_cast-at
+    offset_bounds-terms-at
+    bounds-terms-at
+    overflow_sub-terms
+    offset_bounds-terms-at-2
+    bounds-terms-at-2
     returns)

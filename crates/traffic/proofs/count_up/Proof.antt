@@ -6,44 +6,44 @@ use Rattle.tables.specs.Tables.{field}
 use Rattle.traffic.proofs.count_up.Statement.{statement}
 use Rattle.traffic.proofs.count_up.Tie as tie
 
-add_at : tie.Need-overflow-add-at
+overflow_add-at : tie.Need-overflow_add-at
 unfolding ids places field
-add_at c = search rules
+overflow_add-at c = search rules
 
-cast-at : tie.Need-overflow-cast-at
-cast-at c = search rules
+overflow_cast-at : tie.Need-overflow_cast-at
+overflow_cast-at c = search rules
 
-mul-stocks : tie.Need-overflow-mul-stocks
-mul-stocks c = search rules
+offset_bounds-stocks-at : tie.Need-offset_bounds-stocks-at
+offset_bounds-stocks-at c = search rules
 
-element-copy-out-stocks : tie.Need-element-copy-out-stocks
+bounds-stocks-at : tie.Need-bounds-stocks-at
 unfolding ids places field
-element-copy-out-stocks c = search rules
+bounds-stocks-at c = search rules
 
-add-stocks : tie.Need-overflow-add-stocks
+overflow_add-stocks : tie.Need-overflow_add-stocks
 unfolding ids places field
-add-stocks c = search rules
+overflow_add-stocks c = search rules
 
-mul-stocks-2 : tie.Need-overflow-mul-stocks-2
-mul-stocks-2 c = search rules
+offset_bounds-stocks-at-2 : tie.Need-offset_bounds-stocks-at-2
+offset_bounds-stocks-at-2 c = search rules
 
-element-write-stocks : tie.Need-element-write-stocks
+bounds-stocks-at-2 : tie.Need-bounds-stocks-at-2
 unfolding ids places field
-element-write-stocks c = search rules
+bounds-stocks-at-2 c = search rules
 
 returns : tie.Need-returns
 unfolding ids places field
 returns c = search rules
 
-pub count-up-spec : {M : Type 1} → statement M
-count-up-spec =
+pub count_up_spec : {M : Type 1} → statement M
+count_up_spec =
     tie.close
     (tie.spec
-    add_at
-    cast-at
-    mul-stocks
-    element-copy-out-stocks
-    add-stocks
-    mul-stocks-2
-    element-write-stocks
+    overflow_add-at
+    overflow_cast-at
+    offset_bounds-stocks-at
+    bounds-stocks-at
+    overflow_add-stocks
+    offset_bounds-stocks-at-2
+    bounds-stocks-at-2
     returns)

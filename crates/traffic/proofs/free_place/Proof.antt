@@ -6,63 +6,63 @@ use Rattle.tables.specs.Tables.{field}
 use Rattle.traffic.proofs.free_place.Statement.{statement}
 use Rattle.traffic.proofs.free_place.Tie as tie
 
-add-head : tie.Need-overflow-add-head
+overflow_add-head : tie.Need-overflow_add-head
 unfolding ids places field
-add-head c = search rules
+overflow_add-head c = search rules
 
-cast-head : tie.Need-overflow-cast-head
-cast-head c = search rules
+overflow_cast-head : tie.Need-overflow_cast-head
+overflow_cast-head c = search rules
 
-mul-head : tie.Need-overflow-mul-head
-mul-head c = search rules
+offset_bounds-stocks-id : tie.Need-offset_bounds-stocks-id
+offset_bounds-stocks-id c = search rules
 
-element-copy-out-head : tie.Need-element-copy-out-head
+bounds-stocks-id : tie.Need-bounds-stocks-id
 unfolding ids places field
-element-copy-out-head c = search rules
+bounds-stocks-id c = search rules
 
-add-count : tie.Need-overflow-add-count
+overflow_add-count : tie.Need-overflow_add-count
 unfolding ids places field
-add-count c = search rules
+overflow_add-count c = search rules
 
-cast-count : tie.Need-overflow-cast-count
-cast-count c = search rules
+overflow_cast-count : tie.Need-overflow_cast-count
+overflow_cast-count c = search rules
 
-mul-count : tie.Need-overflow-mul-count
-mul-count c = search rules
+offset_bounds-stocks-id-2 : tie.Need-offset_bounds-stocks-id-2
+offset_bounds-stocks-id-2 c = search rules
 
-element-copy-out-count : tie.Need-element-copy-out-count
+bounds-stocks-id-2 : tie.Need-bounds-stocks-id-2
 unfolding ids places field
-element-copy-out-count c = search rules
+bounds-stocks-id-2 c = search rules
 
-mul-result : tie.Need-overflow-mul-result
+overflow_mul-result : tie.Need-overflow_mul-result
 unfolding ids places field
-mul-result c = search rules
+overflow_mul-result c = search rules
 
-add-result : tie.Need-overflow-add-result
+overflow_add-result : tie.Need-overflow_add-result
 unfolding ids places field
-add-result c = search rules
+overflow_add-result c = search rules
 
-add-result-2 : tie.Need-overflow-add-result-2
+overflow_add-result-2 : tie.Need-overflow_add-result-2
 unfolding ids places field
-add-result-2 c = search rules
+overflow_add-result-2 c = search rules
 
 returns : tie.Need-returns
 unfolding ids places field
 returns c = search rules
 
-pub free-place-spec : {M : Type 1} → statement M
-free-place-spec =
+pub free_place_spec : {M : Type 1} → statement M
+free_place_spec =
     tie.close
     (tie.spec
-    add-head
-    cast-head
-    mul-head
-    element-copy-out-head
-    add-count
-    cast-count
-    mul-count
-    element-copy-out-count
-    mul-result
-    add-result
-    add-result-2
+    overflow_add-head
+    overflow_cast-head
+    offset_bounds-stocks-id
+    bounds-stocks-id
+    overflow_add-count
+    overflow_cast-count
+    offset_bounds-stocks-id-2
+    bounds-stocks-id-2
+    overflow_mul-result
+    overflow_add-result
+    overflow_add-result-2
     returns)

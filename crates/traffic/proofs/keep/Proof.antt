@@ -6,23 +6,23 @@ use Rattle.definitions.specs.Sizes.{ids, places, longest}
 use Rattle.traffic.proofs.keep.Statement.{statement}
 use Rattle.traffic.proofs.keep.Tie as tie
 
-mul-handles : tie.Need-overflow-mul-handles
-mul-handles c = search rules
+offset_bounds-handles-at : tie.Need-offset_bounds-handles-at
+offset_bounds-handles-at c = search rules
 
-element-write-handles : tie.Need-element-write-handles
+bounds-handles-at : tie.Need-bounds-handles-at
 unfolding ids places
-element-write-handles c = search rules
+bounds-handles-at c = search rules
 
-cast-lengths : tie.Need-overflow-cast-lengths
+overflow_cast-lengths : tie.Need-overflow_cast-lengths
 unfolding longest
-cast-lengths c = omega (arith, c.before.requires.1)
+overflow_cast-lengths c = omega (arith, c.before.requires.1)
 
-mul-lengths : tie.Need-overflow-mul-lengths
-mul-lengths c = search rules
+offset_bounds-lengths-at : tie.Need-offset_bounds-lengths-at
+offset_bounds-lengths-at c = search rules
 
-element-write-lengths : tie.Need-element-write-lengths
+bounds-lengths-at : tie.Need-bounds-lengths-at
 unfolding ids places
-element-write-lengths c = search rules
+bounds-lengths-at c = search rules
 
 returns : tie.Need-returns
 unfolding ids places
@@ -31,4 +31,4 @@ returns c = search rules
 pub keep_spec : {M : Type 1} → statement M
 keep_spec =
     tie.close
-    (tie.spec mul-handles element-write-handles cast-lengths mul-lengths element-write-lengths returns)
+    (tie.spec offset_bounds-handles-at bounds-handles-at overflow_cast-lengths offset_bounds-lengths-at bounds-lengths-at returns)

@@ -13,93 +13,93 @@ use Rattle.traffic.proofs.LoadPromise.{load_refused, load_refused_counts, load_b
 use Rattle.traffic.proofs.load.Statement.{statement}
 use Rattle.traffic.proofs.load.Tie as tie
 
-load-number-requires : tie.Need-load-number-requires
-load-number-requires c κs = search rules
+load_number-number-requires : tie.Need-load_number-number-requires
+load_number-number-requires c κs = search rules
 
 refused-requires : tie.Need-refused-requires
 refused-requires c κs = search rules
 
-returns : tie.Need-returns
-returns c =
-    let start = c.before.before.before.before in
+returns-then-number-ne0 : tie.Need-returns-then-number-ne0
+returns-then-number-ne0 c =
+    let start = c in
     in_place refl refl
     (load_refused_counts start.args.control _ start.requires start.args.id start.args.dummies c.refused.result _
     c.refused.ensures)
     (load_refused start.args.control _ start.requires start.args.id start.args.dummies c.refused.result _
-    c.refused.ensures (c.before.before.load-number.ensures _ _ _ _ _) c.before.if1.true)
+    c.refused.ensures (c.load_number-number.ensures _ _ _ _ _) c.if-number-ne0.true)
 
 -- what is known where no check failed
-abbrev entry : tie.Else1 → Tables
+abbrev entry : tie.Else-number-ne0 → Tables
 entry c =
-    let a = c.before.before.before.args in
+    let a = c.args in
     tables a.terms.now a.stocks.now a.handles.now a.lengths.now a.links.now a.counts.now
 
-none : (c : tie.Else1) →
-    let a = c.before.before.before.args in refusal a.control (entry c) (λ s. load_checks s a.id a.dummies) ≡ 0
-none c = sym (c.before.load-number.ensures _ _ _ _ _) ∙ c.if1.false
+none : (c : tie.Else-number-ne0) →
+    let a = c.args in refusal a.control (entry c) (λ s. load_checks s a.id a.dummies) ≡ 0
+none c = sym (c.load_number-number.ensures _ _ _ _ _) ∙ c.if-number-ne0.false
 
-below : (c : tie.Else1) → c.before.before.before.args.id < ids
+below : (c : tie.Else-number-ne0) → c.args.id < ids
 below c =
-    let start = c.before.before.before in
+    let start = c in
     load_below start.args.control (entry c) start.requires start.args.id start.args.dummies (none c)
 
-fits : (c : tie.Else1) → let a = c.before.before.before.args in pool_at a.stocks.now a.id + a.dummies ≤ pool_limit
+fits : (c : tie.Else-number-ne0) → let a = c.args in pool_at a.stocks.now a.id + a.dummies ≤ pool_limit
 fits c =
-    let start = c.before.before.before in
+    let start = c in
     load_fits start.args.control (entry c) start.requires start.args.id start.args.dummies (none c)
 
-add_at : tie.Need-overflow-add-at
+overflow_add-at : tie.Need-overflow_add-at
 unfolding ids
-add_at c = record { fits = omega (arith, below c) }
+overflow_add-at c = record { fits = omega (arith, below c) }
 
-cast-at : tie.Need-overflow-cast-at
-cast-at c = search rules
+overflow_cast-at : tie.Need-overflow_cast-at
+overflow_cast-at c = search rules
 
-mul-stocks : tie.Need-overflow-mul-stocks
-mul-stocks c = search rules
+offset_bounds-stocks-at : tie.Need-offset_bounds-stocks-at
+offset_bounds-stocks-at c = search rules
 
-element-copy-out-stocks : tie.Need-element-copy-out-stocks
+bounds-stocks-at : tie.Need-bounds-stocks-at
 unfolding ids
-element-copy-out-stocks c = omega (arith, below c)
+bounds-stocks-at c = omega (arith, below c.before)
 
-add-stocks : tie.Need-overflow-add-stocks
+overflow_add-stocks : tie.Need-overflow_add-stocks
 unfolding ids pool_limit field
-add-stocks c = record { fits = omega (arith, fits c.before) }
+overflow_add-stocks c = record { fits = omega (arith, fits c.before.before) }
 
-mul-stocks-2 : tie.Need-overflow-mul-stocks-2
-mul-stocks-2 c = search rules
+offset_bounds-stocks-at-2 : tie.Need-offset_bounds-stocks-at-2
+offset_bounds-stocks-at-2 c = search rules
 
-element-write-stocks : tie.Need-element-write-stocks
+bounds-stocks-at-2 : tie.Need-bounds-stocks-at-2
 unfolding ids
-element-write-stocks c = omega (arith, below c.before)
+bounds-stocks-at-2 c = omega (arith, below c.before.before)
 
 accepted-requires : tie.Need-accepted-requires
 accepted-requires c κs = search rules
 
-returns_2 : tie.Need-returns-2
+returns : tie.Need-returns
 unfolding field ids
-returns_2 c =
-    let e = c.before.before in
-    let start = e.before.before.before in
+returns c =
+    let e = c in
+    let start = e in
     in_place refl refl
-    (load_counts start.args.control (entry e) start.requires start.args.id start.args.dummies c.accepted.result
+    (load_counts start.args.control (entry c.before.before.before) start.requires start.args.id start.args.dummies c.accepted.result
     c.accepted.ensures)
-    (load_accepted start.args.control (entry e) start.requires start.args.id start.args.dummies (none e)
+    (load_accepted start.args.control (entry c.before.before.before) start.requires start.args.id start.args.dummies (none c.before.before.before)
     c.accepted.result c.accepted.ensures)
 
 pub load_spec : {M : Type 1} → statement M
 load_spec =
     tie.close
     (tie.spec
-    load-number-requires
+    load_number-number-requires
     refused-requires
-    returns
-    add_at
-    cast-at
-    mul-stocks
-    element-copy-out-stocks
-    add-stocks
-    mul-stocks-2
-    element-write-stocks
+    returns-then-number-ne0
+    overflow_add-at
+    overflow_cast-at
+    offset_bounds-stocks-at
+    bounds-stocks-at
+    overflow_add-stocks
+    offset_bounds-stocks-at-2
+    bounds-stocks-at-2
     accepted-requires
-    returns_2)
+    returns)

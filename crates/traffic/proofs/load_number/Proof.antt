@@ -19,54 +19,54 @@ use Rattle.tables.proofs.ActiveChecks.{active_failed, active_below, active_rest}
 use Rattle.traffic.proofs.load_number.Statement.{statement}
 use Rattle.traffic.proofs.load_number.Tie as tie
 
-active-number-requires : tie.Need-active-number-requires
-active-number-requires c κs = search rules
+active_number-number-requires : tie.Need-active_number-number-requires
+active_number-number-requires c κs = search rules
 
-returns : tie.Need-returns
+returns-then-number-ne0 : tie.Need-returns-then-number-ne0
 unfolding load_checks
-returns c terms handles lengths links counts =
-    let a = c.before.before.args in
-    active_failed a.control a.id _ c.before.active-number.ensures
-    (tables terms a.stocks.now handles lengths links counts) _ c.if1.true
+returns-then-number-ne0 c terms handles lengths links counts =
+    let a = c.args in
+    active_failed a.control a.id _ c.active_number-number.ensures
+    (tables terms a.stocks.now handles lengths links counts) _ c.if-number-ne0.true
 
 -- once the id is known to be active
-below : (c : tie.Else1) → c.before.before.args.id < ids
+below : (c : tie.Else-number-ne0) → c.args.id < ids
 below c =
-    let a = c.before.before.args in
-    active_below a.control a.id _ c.before.active-number.ensures c.if1.false
+    let a = c.args in
+    active_below a.control a.id _ c.active_number-number.ensures c.if-number-ne0.false
 
-rest : (c : tie.Else1) (terms handles lengths links counts : List ℕ) →
-    let a = c.before.before.args in
+rest : (c : tie.Else-number-ne0) (terms handles lengths links counts : List ℕ) →
+    let a = c.args in
     refusal a.control (tables terms a.stocks.now handles lengths links counts) (λ s. load_checks s a.id a.dummies)
     ≡ cond (not (marked a.control.indifferent a.id))
     (cond (leb (pool_at a.stocks.now a.id + a.dummies) pool_limit) 0 12) 11
 unfolding load_checks first_failed state_of clients_of client_at side_of stocks_of stock_at
 rest c terms handles lengths links counts =
-    let a = c.before.before.args in
-    active_rest a.control a.id _ c.before.active-number.ensures c.if1.false
+    let a = c.args in
+    active_rest a.control a.id _ c.active_number-number.ensures c.if-number-ne0.false
     (tables terms a.stocks.now handles lengths links counts) _
     ∙ rw (lt-ltb a.id ids (below c), kind_indifferent a.control a.id)
 
 has-requires : tie.Need-has-requires
 has-requires c κs = search rules
 
-returns_2 : tie.Need-returns-2
-returns_2 c terms handles lengths links counts =
-    sym (rest c.before.before terms handles lengths links counts ∙ rw (sym c.before.has.ensures ∙ c.if2.true))
+returns-then-has : tie.Need-returns-then-has
+returns-then-has c terms handles lengths links counts =
+    sym (rest c.before.before terms handles lengths links counts ∙ rw (sym c.has.ensures ∙ c.if-has.true))
 
-add_wide : tie.Need-overflow-add-wide
+overflow_add-id : tie.Need-overflow_add-id
 unfolding ids
-add_wide c = record { fits = omega (arith, below c.before.before) }
+overflow_add-id c = record { fits = omega (arith, below c.before.before) }
 
-cast-wide : tie.Need-overflow-cast-wide
-cast-wide c = search rules
+overflow_cast-id : tie.Need-overflow_cast-id
+overflow_cast-id c = search rules
 
-mul_wide : tie.Need-overflow-mul-wide
-mul_wide c = search rules
+offset_bounds-stocks-id : tie.Need-offset_bounds-stocks-id
+offset_bounds-stocks-id c = search rules
 
-element-copy-out-wide : tie.Need-element-copy-out-wide
+bounds-stocks-id : tie.Need-bounds-stocks-id
 unfolding ids
-element-copy-out-wide c = omega (arith, below c.before.before)
+bounds-stocks-id c = omega (arith, below c.before.before.before)
 
 wide-requires : tie.Need-wide-requires
 wide-requires c κs = search rules
@@ -74,43 +74,43 @@ wide-requires c κs = search rules
 wide-requires-2 : tie.Need-wide-requires-2
 wide-requires-2 c κs = search rules
 
-add-if3 : tie.Need-overflow-add-if3
-add-if3 c = omega (arith, c.wide2.ensures, c.before.wide.ensures)
+overflow_add-wide : tie.Need-overflow_add-wide
+overflow_add-wide c = omega (arith, c.wide-2.ensures, c.wide.ensures)
 
-returns-3 : tie.Need-returns-3
+returns-then-wide-gt-POOL_LIMIT : tie.Need-returns-then-wide-gt-POOL_LIMIT
 unfolding pool_limit field ids
-returns-3 c terms handles lengths links counts =
-    let private = c.before.before.before.before in
-    let a = private.before.before.before.before.args in
+returns-then-wide-gt-POOL_LIMIT c terms handles lengths links counts =
+    let private = c in
+    let a = private.args in
     let past : pool_limit < pool_at a.stocks.now a.id + a.dummies =
-    omega (arith, c.if3.true, c.before.wide2.ensures, c.before.before.wide.ensures) in
-    sym (rest private.before.before terms handles lengths links counts
-    ∙ rw (sym private.before.has.ensures ∙ private.if2.false, lt-leb _ _ past))
+    omega (arith, c.if-wide-gt-POOL_LIMIT.true, c.wide-2.ensures, c.wide.ensures) in
+    sym (rest c.before.before.before.before.before.before.before terms handles lengths links counts
+    ∙ rw (sym private.has.ensures ∙ private.if-has.false, lt-leb _ _ past))
 
-returns-4 : tie.Need-returns-4
+returns : tie.Need-returns
 unfolding pool_limit field ids
-returns-4 c terms handles lengths links counts =
-    let private = c.before.before.before.before in
-    let a = private.before.before.before.before.args in
+returns c terms handles lengths links counts =
+    let private = c in
+    let a = private.args in
     let fits : pool_at a.stocks.now a.id + a.dummies ≤ pool_limit =
-    omega (arith, c.if3.false, c.before.wide2.ensures, c.before.before.wide.ensures) in
-    sym (rest private.before.before terms handles lengths links counts
-    ∙ rw (sym private.before.has.ensures ∙ private.if2.false, le-leb _ _ fits))
+    omega (arith, c.if-wide-gt-POOL_LIMIT.false, c.wide-2.ensures, c.wide.ensures) in
+    sym (rest c.before.before.before.before.before.before.before terms handles lengths links counts
+    ∙ rw (sym private.has.ensures ∙ private.if-has.false, le-leb _ _ fits))
 
-pub load-number-spec : {M : Type 1} → statement M
-load-number-spec =
+pub load_number_spec : {M : Type 1} → statement M
+load_number_spec =
     tie.close
     (tie.spec
-    active-number-requires
-    returns
+    active_number-number-requires
+    returns-then-number-ne0
     has-requires
-    returns_2
-    add_wide
-    cast-wide
-    mul_wide
-    element-copy-out-wide
+    returns-then-has
+    overflow_add-id
+    overflow_cast-id
+    offset_bounds-stocks-id
+    bounds-stocks-id
     wide-requires
     wide-requires-2
-    add-if3
-    returns-3
-    returns-4)
+    overflow_add-wide
+    returns-then-wide-gt-POOL_LIMIT
+    returns)
