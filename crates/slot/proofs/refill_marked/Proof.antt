@@ -19,7 +19,7 @@ invariant-loop-left word terms₀ left₀ terms left = Filling word left terms�
 abbrev decreases-loop-left : tie.decreases-loop-left
 decreases-loop-left word terms₀ left₀ terms left = left
 
-more : (c : tie.In-loop-left invariant-loop-left decreases-loop-left) → 0 < c.before.loop-left.left
+more : (c : tie.In-loop-left invariant-loop-left decreases-loop-left) → 0 < c.loop-left.left
 more c = omega (arith, c.loop-left-test.true)
 
 -- the first id left is one of the ids
@@ -29,13 +29,13 @@ below c =
     omega (
       arith,
       c.first-id.ensures,
-      first_below _ _ _ _ c.before.before.before.requires c.before.before.loop-left.invariant (more c.before),
+      first_below _ _ _ _ c.requires c.loop-left.invariant (more c.before),
     )
 
-bucket : (c : tie.After-first-id invariant-loop-left decreases-loop-left) → Within (bucket_at c.before.before.loop-left.terms c.first-id.result)
+bucket : (c : tie.After-first-id invariant-loop-left decreases-loop-left) → Within (bucket_at c.loop-left.terms c.first-id.result)
 bucket c =
     rw c.first-id.ensures
-    (first_bucket _ _ _ _ c.before.before.before.requires c.before.before.loop-left.invariant (more c.before))
+    (first_bucket _ _ _ _ c.requires c.loop-left.invariant (more c.before))
 
 loop-left-init : tie.Need-loop-left-init invariant-loop-left decreases-loop-left
 unfolding ids
@@ -54,7 +54,7 @@ offset_bounds-terms-at : tie.Need-offset_bounds-terms-at invariant-loop-left dec
 offset_bounds-terms-at c = search rules
 
 bounds-terms-at : tie.Need-bounds-terms-at invariant-loop-left decreases-loop-left
-bounds-terms-at c = omega (arith, below c)
+bounds-terms-at c = omega (arith, below c.before)
 
 overflow_cast-id : tie.Need-overflow_cast-id invariant-loop-left decreases-loop-left
 overflow_cast-id c = search rules
@@ -63,10 +63,10 @@ offset_bounds-terms-id : tie.Need-offset_bounds-terms-id invariant-loop-left dec
 offset_bounds-terms-id c = search rules
 
 bounds-terms-id : tie.Need-bounds-terms-id invariant-loop-left decreases-loop-left
-bounds-terms-id c = omega (arith, below c.before)
+bounds-terms-id c = omega (arith, below c.before.before)
 
 overflow_add-id : tie.Need-overflow_add-id invariant-loop-left decreases-loop-left
-overflow_add-id c = omega (arith, below c.before.before)
+overflow_add-id c = omega (arith, below c.before.before.before)
 
 overflow_cast-id-in-loop-left : tie.Need-overflow_cast-id-in-loop-left invariant-loop-left decreases-loop-left
 overflow_cast-id-in-loop-left c = search rules
@@ -75,39 +75,39 @@ offset_bounds-terms-id-in-loop-left : tie.Need-offset_bounds-terms-id-in-loop-le
 offset_bounds-terms-id-in-loop-left c = search rules
 
 bounds-terms-id-in-loop-left : tie.Need-bounds-terms-id-in-loop-left invariant-loop-left decreases-loop-left
-bounds-terms-id-in-loop-left c = omega (arith, below c.before.before)
+bounds-terms-id-in-loop-left c = omega (arith, below c.before.before.before)
 
 level_after-requires : tie.Need-level_after-requires invariant-loop-left decreases-loop-left
 unfolding field ids
 level_after-requires c κs =
-    let at = c.before.before.before in
-    let b = bucket at in
-    rw (← (rate_first at.before.before.loop-left.terms at.first-id.result)) b
+    let at = c in
+    let b = bucket c.before.before.before.before in
+    rw (← (rate_first at.loop-left.terms at.first-id.result)) b
 
 offset_bounds-terms-at-in-loop-left : tie.Need-offset_bounds-terms-at-in-loop-left invariant-loop-left decreases-loop-left
 offset_bounds-terms-at-in-loop-left c = search rules
 
 bounds-terms-at-in-loop-left : tie.Need-bounds-terms-at-in-loop-left invariant-loop-left decreases-loop-left
-bounds-terms-at-in-loop-left c = omega (arith, below c.before.before.before.before)
+bounds-terms-at-in-loop-left c = omega (arith, below c.before.before.before.before.before)
 
 rest-left-requires : tie.Need-rest-left-requires invariant-loop-left decreases-loop-left
 rest-left-requires c κs = search rules
 
 loop-left-smaller : tie.Need-loop-left-smaller invariant-loop-left decreases-loop-left
-loop-left-smaller c = c.rest-left.ensures.1 (more c.before.before.before.before.before.before)
+loop-left-smaller c = c.rest-left.ensures.1 (more c.before.before.before.before.before.before.before)
 
 loop-left-preserved : tie.Need-loop-left-preserved invariant-loop-left decreases-loop-left
 unfolding field ids level_after
 loop-left-preserved c =
-    let top = c.before.before.before.before.before.before in
-    let at = c.before.before.before.before.before in
+    let top = c in
+    let at = c in
     rw at.first-id.ensures
-    (filling_step _ _ _ _ top.before.before.requires top.before.loop-left.invariant (more top) c.rest-left.result
-    c.before.level_after.result c.rest-left.ensures.0 (loop-left-smaller c)
-    (c.before.level_after.ensures ∙ rw (rate_first _ _, at.first-id.ensures)))
+    (filling_step _ _ _ _ top.requires top.loop-left.invariant (more c.before.before.before.before.before.before.before) c.rest-left.result
+    c.level_after.result c.rest-left.ensures.0 (loop-left-smaller c)
+    (c.level_after.ensures ∙ rw (rate_first _ _, at.first-id.ensures)))
 
 returns : tie.Need-returns invariant-loop-left decreases-loop-left
-returns c = filling_done _ _ _ _ c.before.loop-left.invariant c.loop-left-test.false
+returns c = filling_done _ _ _ _ c.loop-left.invariant c.loop-left-test.false
 
 pub refill_marked_spec : {M : Type 1} → statement M
 refill_marked_spec =

@@ -16,9 +16,9 @@ undrawn-requires c κs = search rules
 
 returns-then-not-control : tie.Need-returns-then-not-control
 returns-then-not-control c =
-    let said = c.before in
-    let start = said.before.before.before in
-    let shut = not-true start.args.control.opened said.before.if-not-control.true in (
+    let said = c in
+    let start = said in
+    let shut = not-true start.args.control.opened said.if-not-control.true in (
       in_place refl refl (tick_refused_counts _ _ start.requires said.refused-answered.result said.refused-answered.ensures)
           (tick_refused _ _ start.requires shut said.refused-answered.result said.refused-answered.ensures),
       undrawn_draws _ _ start.requires shut c.undrawn.ensures,
@@ -26,42 +26,42 @@ returns-then-not-control c =
 
 turn-choice-requires : tie.Need-turn-choice-requires
 turn-choice-requires c κs =
-    let start = c.before.before.before.before in
-    (_, _, _, _, start.requires (not-false start.args.control.opened c.before.before.if-not-control.false))
+    let start = c in
+    (_, _, _, _, start.requires (not-false start.args.control.opened c.if-not-control.false))
 
 spend-sent-requires : tie.Need-spend-sent-requires
 spend-sent-requires c κs =
-    let tested = c.before.before.before.before.before.before in
-    let start = tested.before.before in
+    let tested = c in
+    let start = tested in
     let core = start.requires (not-false start.args.control.opened tested.if-not-control.false) in
-    (_, _, record { core = core; chosen = c.before.before.before.turn-choice.ensures _ _ _ _ core })
+    (_, _, record { core = core; chosen = c.turn-choice.ensures _ _ _ _ core })
 
 refill_all-requires : tie.Need-refill_all-requires
 refill_all-requires c κs =
-    let tested = c.before.before.before.before.before.before.before.before in
-    let valid = tested.before.before.requires in
-    let ready = not-false tested.before.before.args.control.opened tested.if-not-control.false in
-    let chosen = c.before.before.before.before.before.turn-choice.ensures _ _ _ _ (valid ready) in
-    done_refillable _ _ valid ready c.before.spend-sent.result _
-    (c.before.spend-sent.ensures _ _ (record { core = valid ready; chosen = chosen }))
+    let tested = c in
+    let valid = tested.requires in
+    let ready = not-false tested.args.control.opened tested.if-not-control.false in
+    let chosen = c.turn-choice.ensures _ _ _ _ (valid ready) in
+    done_refillable _ _ valid ready c.spend-sent.result _
+    (c.spend-sent.ensures _ _ (record { core = valid ready; chosen = chosen }))
 
 send-requires : tie.Need-send-requires
 send-requires c κs =
-    let spent = c.before.before.before.before in
-    let tested = spent.before.before.before.before.before.before.before in
-    let valid = tested.before.before.requires in
-    let ready = not-false tested.before.before.args.control.opened tested.if-not-control.false in
-    let chosen = spent.before.before.before.before.turn-choice.ensures _ _ _ _ (valid ready) in
+    let spent = c in
+    let tested = spent in
+    let valid = tested.requires in
+    let ready = not-false tested.args.control.opened tested.if-not-control.false in
+    let chosen = spent.turn-choice.ensures _ _ _ _ (valid ready) in
     tick_sender _ _ valid ready spent.spend-sent.result _ (spent.spend-sent.ensures _ _ (record { core = valid ready; chosen = chosen }))
 
 returns : tie.Need-returns
 returns c =
-    let refilled = c.before.before.before in
-    let spent = refilled.before.before in
-    let tested = spent.before.before.before.before.before.before.before in
-    let valid = tested.before.before.requires in
-    let ready = not-false tested.before.before.args.control.opened tested.if-not-control.false in
-    let turn = spent.before.before.before.before.turn-choice in
+    let refilled = c in
+    let spent = refilled in
+    let tested = spent in
+    let valid = tested.requires in
+    let ready = not-false tested.args.control.opened tested.if-not-control.false in
+    let turn = spent.turn-choice in
     let chosen = turn.ensures _ _ _ _ (valid ready) in
     let done = spent.spend-sent.ensures _ _ (record { core = valid ready; chosen = chosen }) in (
       in_place refl refl (tick_counts _ _ valid ready spent.spend-sent.result _ done _ _ refl c.send.ensures)
