@@ -16,7 +16,7 @@ use Rattle.grammar.specs.declared.Line.{Line}
 use Rattle.grammar.specs.declared.Line.TheVariants.{Refused}
 use Rattle.definitions.specs.Sizes.{handle_limit}
 use Rattle.grammar.specs.Templates.{is_gap, limits, matched}
-use Rattle.grammar.specs.Grammar.{Rule, behind_text, sized, sized_in, or_else, parsed_by, parsed_by_in}
+use Rattle.grammar.specs.Grammar.{Rule, behind_text, sized_in, or_else, parsed_by, parsed_by_in}
 use Rattle.grammar.proofs.TemplateSteps.{limits_byte, byte_fits, byte_misfits}
 use Rattle.parser.specs.Readings.{verdict, numbers_room, Reads}
 use Rattle.parser.specs.Texts.{starts, plain}

@@ -2,6 +2,8 @@
 // lines of a text of demands are read by the same rules.
 // A form is the text that it begins with, a template for the rest, with gaps for numbers, and the call that the numbers make.
 // One matcher walks the templates, and knows nothing of calls.
+#![tactic(auto)]
+
 ghost use Rattle.std.specs.Prelude.{◌≡◌, true, ◌||◌, ◌<◌, ◌++◌, drop};
 ghost use Rattle.grammar.specs.Grammar.{open_forms, join_forms, change_forms, leave_forms, load_forms, arrive_forms, tick_forms};
 ghost use Rattle.grammar.specs.Grammar.{parsed_by, parsed};

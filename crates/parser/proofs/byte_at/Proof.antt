@@ -8,19 +8,19 @@ use Rattle.parser.specs.Numbers.{byte_of}
 use Rattle.parser.proofs.byte_at.Statement.{statement}
 use Rattle.parser.proofs.byte_at.Tie as tie
 
-returns : tie.Need-returns
+returns-then-line-at : tie.Need-returns-then-line-at
 unfolding byte_of
-returns c = sym (ap byte_of (drop_of_length-le _ c.if1.true))
+returns-then-line-at c = sym (ap byte_of (drop_of_length-le _ c.if-line-at.true))
 
-shared-slice-read-wide : tie.Need-shared-slice-read-wide
-shared-slice-read-wide c = search rules
+bounds-line-at : tie.Need-bounds-line-at
+bounds-line-at c = search rules
 
 wide-requires : tie.Need-wide-requires
 wide-requires c κs = search rules
 
-returns_2 : tie.Need-returns-2
+returns : tie.Need-returns
 unfolding byte_of
-returns_2 c = c.wide.ensures ∙ sym (ap byte_of (drop-cons _ _ 0 c.before.before.if1.false))
+returns c = c.wide.ensures ∙ sym (ap byte_of (drop-cons _ _ 0 c.before.before.if-line-at.false))
 
-pub byte-at-spec : {M : Type 1} → statement M
-byte-at-spec = tie.close (tie.spec returns shared-slice-read-wide wide-requires returns_2)
+pub byte_at_spec : {M : Type 1} → statement M
+byte_at_spec = tie.close (tie.spec returns-then-line-at bounds-line-at wide-requires returns)

@@ -8,22 +8,22 @@ use Rattle.parser.specs.Numbers.{digit_of}
 use Rattle.parser.proofs.digit_at.Statement.{statement}
 use Rattle.parser.proofs.digit_at.Tie as tie
 
-byte-at-requires : tie.Need-byte-at-requires
-byte-at-requires c κs = search rules
+byte_at-byte-requires : tie.Need-byte_at-byte-requires
+byte_at-byte-requires c κs = search rules
+
+returns-then-byte-lt48 : tie.Need-returns-then-byte-lt48
+unfolding digit_of is_digit within
+returns-then-byte-lt48 c = rw (← c.before.byte_at-byte.ensures, lt-leb _ _ c.if-byte-lt48.true)
+
+returns-then-byte-gt57 : tie.Need-returns-then-byte-gt57
+unfolding digit_of is_digit within
+returns-then-byte-gt57 c =
+    rw (← c.before.before.byte_at-byte.ensures, le-leb _ _ c.before.if-byte-lt48.false, lt-leb _ _ c.if-byte-gt57.true)
 
 returns : tie.Need-returns
 unfolding digit_of is_digit within
-returns c = rw (← c.before.byte_at.ensures, lt-leb _ _ c.if1.true)
+returns c =
+    rw (← c.before.before.byte_at-byte.ensures, le-leb _ _ c.before.if-byte-lt48.false, le-leb _ _ c.if-byte-gt57.false)
 
-returns_2 : tie.Need-returns-2
-unfolding digit_of is_digit within
-returns_2 c =
-    rw (← c.before.before.byte_at.ensures, le-leb _ _ c.before.if1.false, lt-leb _ _ c.if2.true)
-
-returns-3 : tie.Need-returns-3
-unfolding digit_of is_digit within
-returns-3 c =
-    rw (← c.before.before.byte_at.ensures, le-leb _ _ c.before.if1.false, le-leb _ _ c.if2.false)
-
-pub digit-at-spec : {M : Type 1} → statement M
-digit-at-spec = tie.close (tie.spec byte-at-requires returns returns_2 returns-3)
+pub digit_at_spec : {M : Type 1} → statement M
+digit_at_spec = tie.close (tie.spec byte_at-byte-requires returns-then-byte-lt48 returns-then-byte-gt57 returns)

@@ -4,11 +4,11 @@ use Rattle.parser.proofs.NumeralWalk.{exceeds_past, exceeds_exact}
 use Rattle.parser.proofs.exceeds.Statement.{statement}
 use Rattle.parser.proofs.exceeds.Tie as tie
 
-returns : tie.Need-returns
-returns c n s = exceeds_past s _ c.if1.true (omega arith)
+returns-then-amount : tie.Need-returns-then-amount
+returns-then-amount c n s = exceeds_past s _ c.if-amount.true (omega arith)
 
-returns_2 : tie.Need-returns-2
-returns_2 c n s = exceeds_exact s _ c.before.if1.false
+returns-else-amount : tie.Need-returns-else-amount
+returns-else-amount c n s = exceeds_exact s _ c.before.if-amount.false
 
-pub exceeds-spec : {M : Type 1} → statement M
-exceeds-spec = tie.close (tie.spec returns returns_2)
+pub exceeds_spec : {M : Type 1} → statement M
+exceeds_spec = tie.close (tie.spec returns-then-amount returns-else-amount)

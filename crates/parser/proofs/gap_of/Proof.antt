@@ -5,16 +5,16 @@ use Rattle.definitions.specs.Sizes.{number_limit, handle_limit}
 use Rattle.parser.proofs.gap_of.Statement.{statement}
 use Rattle.parser.proofs.gap_of.Tie as tie
 
-returns : tie.Need-returns
+returns-then-byte-eq-NUMBER : tie.Need-returns-then-byte-eq-NUMBER
 unfolding number_limit
-returns c = rw (eq-eqb _ _ c.if1.true)
+returns-then-byte-eq-NUMBER c = rw (eq-eqb _ _ c.if-byte-eq-NUMBER.true)
 
-returns_2 : tie.Need-returns-2
+returns-then-byte-eq-HANDLE : tie.Need-returns-then-byte-eq-HANDLE
 unfolding handle_limit
-returns_2 c = rw (ne_eqb _ _ c.before.if1.false, eq-eqb _ _ c.if2.true)
+returns-then-byte-eq-HANDLE c = rw (ne_eqb _ _ c.before.if-byte-eq-NUMBER.false, eq-eqb _ _ c.if-byte-eq-HANDLE.true)
 
-returns-3 : tie.Need-returns-3
-returns-3 c = rw (ne_eqb _ _ c.before.if1.false, ne_eqb _ _ c.if2.false)
+returns : tie.Need-returns
+returns c = rw (ne_eqb _ _ c.before.if-byte-eq-NUMBER.false, ne_eqb _ _ c.if-byte-eq-HANDLE.false)
 
-pub gap-of-spec : {M : Type 1} → statement M
-gap-of-spec = tie.close (tie.spec returns returns_2 returns-3)
+pub gap_of_spec : {M : Type 1} → statement M
+gap_of_spec = tie.close (tie.spec returns-then-byte-eq-NUMBER returns-then-byte-eq-HANDLE returns)

@@ -5,17 +5,17 @@ use Rattle.parser.specs.Numbers.{spelled}
 use Rattle.parser.proofs.is_spelled.Statement.{statement}
 use Rattle.parser.proofs.is_spelled.Tie as tie
 
+returns-then-count-eq0 : tie.Need-returns-then-count-eq0
+unfolding spelled
+returns-then-count-eq0 c = rw (eq-eqb _ _ c.if-count-eq0.true)
+
+returns-then-count-eq1 : tie.Need-returns-then-count-eq1
+unfolding spelled
+returns-then-count-eq1 c = rw (ne_eqb _ _ c.before.if-count-eq0.false, eq-eqb _ _ c.if-count-eq1.true)
+
 returns : tie.Need-returns
 unfolding spelled
-returns c = rw (eq-eqb _ _ c.if1.true)
+returns c = rw (ne_eqb _ _ c.before.if-count-eq0.false, ne_eqb _ _ c.if-count-eq1.false)
 
-returns_2 : tie.Need-returns-2
-unfolding spelled
-returns_2 c = rw (ne_eqb _ _ c.before.if1.false, eq-eqb _ _ c.if2.true)
-
-returns-3 : tie.Need-returns-3
-unfolding spelled
-returns-3 c = rw (ne_eqb _ _ c.before.if1.false, ne_eqb _ _ c.if2.false)
-
-pub is-spelled-spec : {M : Type 1} → statement M
-is-spelled-spec = tie.close (tie.spec returns returns_2 returns-3)
+pub is_spelled_spec : {M : Type 1} → statement M
+is_spelled_spec = tie.close (tie.spec returns-then-count-eq0 returns-then-count-eq1 returns)

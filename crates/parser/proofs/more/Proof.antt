@@ -7,29 +7,29 @@ use Rattle.parser.proofs.NumeralWalk.{stands_more, stands_past}
 use Rattle.parser.proofs.more.Statement.{statement}
 use Rattle.parser.proofs.more.Tie as tie
 
-mul-t4 : tie.Need-overflow-mul-t4
-mul-t4 c = search rules
+overflow_mul-result : tie.Need-overflow_mul-result
+overflow_mul-result c = search rules
 
-add-t5 : tie.Need-overflow-add-t5
-add-t5 c = search rules
+overflow_add-result : tie.Need-overflow_add-result
+overflow_add-result c = search rules
+
+returns-then-amount-lt-TENTH : tie.Need-returns-then-amount-lt-TENTH
+returns-then-amount-lt-TENTH c n s = stands_more s _ refl
+
+returns-then-amount-gt-TENTH : tie.Need-returns-then-amount-gt-TENTH
+returns-then-amount-gt-TENTH c n s = stands_past s _ (omega arith)
+
+returns-then-digit-gt-LAST : tie.Need-returns-then-digit-gt-LAST
+returns-then-digit-gt-LAST c n s = stands_past s _ (omega arith)
+
+overflow_mul-result-2 : tie.Need-overflow_mul-result-2
+overflow_mul-result-2 c = search rules
+
+overflow_add-result-2 : tie.Need-overflow_add-result-2
+overflow_add-result-2 c = search rules
 
 returns : tie.Need-returns
 returns c n s = stands_more s _ refl
 
-returns_2 : tie.Need-returns-2
-returns_2 c n s = stands_past s _ (omega arith)
-
-returns-3 : tie.Need-returns-3
-returns-3 c n s = stands_past s _ (omega arith)
-
-mul-t6 : tie.Need-overflow-mul-t6
-mul-t6 c = search rules
-
-add-t7 : tie.Need-overflow-add-t7
-add-t7 c = search rules
-
-returns-4 : tie.Need-returns-4
-returns-4 c n s = stands_more s _ refl
-
-pub more-spec : {M : Type 1} → statement M
-more-spec = tie.close (tie.spec mul-t4 add-t5 returns returns_2 returns-3 mul-t6 add-t7 returns-4)
+pub more_spec : {M : Type 1} → statement M
+more_spec = tie.close (tie.spec overflow_mul-result overflow_add-result returns-then-amount-lt-TENTH returns-then-amount-gt-TENTH returns-then-digit-gt-LAST overflow_mul-result-2 overflow_add-result-2 returns)

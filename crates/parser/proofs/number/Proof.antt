@@ -7,46 +7,46 @@ use Rattle.parser.proofs.Words.{word_unspelled, word-longer, word_large, word_fi
 use Rattle.parser.proofs.number.Statement.{statement}
 use Rattle.parser.proofs.number.Tie as tie
 
-read-numeral-requires : tie.Need-read-numeral-requires
-read-numeral-requires c κs = search rules
+read_numeral-numeral-requires : tie.Need-read_numeral-numeral-requires
+read_numeral-numeral-requires c κs = search rules
 
-returns : tie.Need-returns
+returns-then-not-numeral : tie.Need-returns-then-not-numeral
 unfolding number_limit
-returns c = word_unspelled c.before.before.read-numeral.ensures (not-true _ c.if1.true)
+returns-then-not-numeral c = word_unspelled c.before.before.read_numeral-numeral.ensures (not-true _ c.if-not-numeral.true)
 
-returns_2 : tie.Need-returns-2
+returns-then-numeral-word : tie.Need-returns-then-numeral-word
 unfolding number_limit
-returns_2 c =
+returns-then-numeral-word c =
     let spelled = c.before.before in
-    word-longer spelled.before.before.read-numeral.ensures (not-false _ spelled.if1.false) c.if2.true
+    word-longer spelled.before.before.read_numeral-numeral.ensures (not-false _ spelled.if-not-numeral.false) c.if-numeral-word.true
 
-returns-3 : tie.Need-returns-3
+returns-then-numeral : tie.Need-returns-then-numeral
 unfolding number_limit
-returns-3 c =
+returns-then-numeral c =
     let whole = c.before in
     let spelled = whole.before.before in
-    word_large spelled.before.before.read-numeral.ensures (not-false _ spelled.if1.false) whole.if2.false
-    c.if3.true
+    word_large spelled.before.before.read_numeral-numeral.ensures (not-false _ spelled.if-not-numeral.false) whole.if-numeral-word.false
+    c.if-numeral.true
 
-cast-t5 : tie.Need-overflow-cast-t5
+overflow_cast-result : tie.Need-overflow_cast-result
 unfolding number_limit
-cast-t5 c =
+overflow_cast-result c =
     let whole = c.before.before in
     let spelled = whole.before.before in
     omega (
       arith,
-      word_fits spelled.before.before.read-numeral.ensures (not-false _ spelled.if1.false) whole.if2.false
-          c.before.if3.false,
+      word_fits spelled.before.before.read_numeral-numeral.ensures (not-false _ spelled.if-not-numeral.false) whole.if-numeral-word.false
+          c.before.if-numeral.false,
     )
 
-returns-4 : tie.Need-returns-4
+returns : tie.Need-returns
 unfolding number_limit
-returns-4 c =
+returns c =
     let whole = c.before.before in
     let spelled = whole.before.before in
-    word_number spelled.before.before.read-numeral.ensures (not-false _ spelled.if1.false) whole.if2.false
-    c.before.if3.false
+    word_number spelled.before.before.read_numeral-numeral.ensures (not-false _ spelled.if-not-numeral.false) whole.if-numeral-word.false
+    c.before.if-numeral.false
 
-pub number-spec : {M : Type 1} → statement M
-number-spec =
-    tie.close (tie.spec read-numeral-requires returns returns_2 returns-3 cast-t5 returns-4)
+pub number_spec : {M : Type 1} → statement M
+number_spec =
+    tie.close (tie.spec read_numeral-numeral-requires returns-then-not-numeral returns-then-numeral-word returns-then-numeral overflow_cast-result returns)

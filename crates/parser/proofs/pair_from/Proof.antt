@@ -5,19 +5,19 @@ use Rattle.definitions.specs.Sizes.{number_limit}
 use Rattle.parser.proofs.pair_from.Statement.{statement}
 use Rattle.parser.proofs.pair_from.Tie as tie
 
+returns-then-refused-ne-FITS : tie.Need-returns-then-refused-ne-FITS
+returns-then-refused-ne-FITS c = rw (ne_eqb _ 0 c.if-refused-ne-FITS.true)
+
+overflow_cast-result : tie.Need-overflow_cast-result
+unfolding number_limit
+overflow_cast-result c = omega (arith, c.before.requires.low c.if-refused-ne-FITS.false)
+
+overflow_cast-result-2 : tie.Need-overflow_cast-result-2
+unfolding number_limit
+overflow_cast-result-2 c = omega (arith, c.before.requires.low c.if-refused-ne-FITS.false)
+
 returns : tie.Need-returns
-returns c = rw (ne_eqb _ 0 c.if1.true)
+returns c = rw (eq-eqb _ 0 c.if-refused-ne-FITS.false)
 
-cast-t5 : tie.Need-overflow-cast-t5
-unfolding number_limit
-cast-t5 c = omega (arith, c.before.requires.low c.if1.false)
-
-cast-t6 : tie.Need-overflow-cast-t6
-unfolding number_limit
-cast-t6 c = omega (arith, c.before.requires.low c.if1.false)
-
-returns_2 : tie.Need-returns-2
-returns_2 c = rw (eq-eqb _ 0 c.if1.false)
-
-pub pair-from-spec : {M : Type 1} → statement M
-pair-from-spec = tie.close (tie.spec returns cast-t5 cast-t6 returns_2)
+pub pair_from_spec : {M : Type 1} → statement M
+pair_from_spec = tie.close (tie.spec returns-then-refused-ne-FITS overflow_cast-result overflow_cast-result-2 returns)

@@ -15,23 +15,23 @@ use Rattle.parser.proofs.parse_tick.Tie as tie
 starts-requires : tie.Need-starts-requires
 starts-requires c κs = search rules
 
-returns : tie.Need-returns
+returns-then-not-starts : tie.Need-returns-then-not-starts
 unfolding tick_forms plain
-returns c =
-    let none = sym c.before.starts.ensures ∙ not-true _ c.if1.true in
+returns-then-not-starts c =
+    let none = sym c.before.starts.ensures ∙ not-true _ c.if-not-starts.true-raw in
     sym (rule_missed _ [] _ (not-begun (bytes "(tick)") [] _ refl none) ∙ no_rule _)
 
-returns_2 : tie.Need-returns-2
+returns-then-line-gt6 : tie.Need-returns-then-line-gt6
 unfolding tick_forms plain
-returns_2 c =
-    let begun = sym c.before.before.starts.ensures ∙ not-false _ c.before.if1.false in
-    sym (rule_missed _ [] _ (bytes-behind (bytes "(tick)") _ refl begun c.if2.true) ∙ no_rule _)
+returns-then-line-gt6 c =
+    let begun = sym c.before.before.starts.ensures ∙ not-false _ c.before.if-not-starts.false-raw in
+    sym (rule_missed _ [] _ (bytes-behind (bytes "(tick)") _ refl begun c.if-line-gt6.true) ∙ no_rule _)
 
-returns-3 : tie.Need-returns-3
+returns : tie.Need-returns
 unfolding tick_forms plain limits_in
-returns-3 c =
-    let begun = sym c.before.before.starts.ensures ∙ not-false _ c.before.if1.false in
-    sym (rule-bare _ [] _ (whole_line (bytes "(tick)") _ refl begun c.if2.false) refl)
+returns c =
+    let begun = sym c.before.before.starts.ensures ∙ not-false _ c.before.if-not-starts.false-raw in
+    sym (rule-bare _ [] _ (whole_line (bytes "(tick)") _ refl begun c.if-line-gt6.false) refl)
 
-pub parse-tick-spec : {M : Type 1} → statement M
-parse-tick-spec = tie.close (tie.spec starts-requires returns returns_2 returns-3)
+pub parse_tick_spec : {M : Type 1} → statement M
+parse_tick_spec = tie.close (tie.spec starts-requires returns-then-not-starts returns-then-line-gt6 returns)

@@ -10,21 +10,21 @@ use Rattle.parser.proofs.read_form.Tie as tie
 starts-requires : tie.Need-starts-requires
 starts-requires c κs = search rules
 
+returns-then-not-starts : tie.Need-returns-then-not-starts
+returns-then-not-starts c =
+    let readable = c.before.before.before.before.before.requires in
+    read_other _ _ _ readable.bare (sym c.before.starts.ensures ∙ not-true _ c.if-not-starts.true-raw) readable.room.sized
+
+read_as-requires : tie.Need-read_as-requires
+read_as-requires c κs = search rules
+
 returns : tie.Need-returns
 returns c =
-    let readable = c.before.before.before.before.before.requires in
-    read_other _ _ _ readable.bare (sym c.before.starts.ensures ∙ not-true _ c.if1.true) readable.room.sized
-
-read-as-requires : tie.Need-read-as-requires
-read-as-requires c κs = search rules
-
-returns_2 : tie.Need-returns-2
-returns_2 c =
     let begun = c.before.before in
     read_behind _ _ _
     begun.before.before.before.before.before.requires.bare
-    (sym begun.before.starts.ensures ∙ not-false _ begun.if1.false)
+    (sym begun.before.starts.ensures ∙ not-false _ begun.if-not-starts.false-raw)
     c.read_as.ensures
 
-pub read-form-spec : {M : Type 1} → statement M
-read-form-spec = tie.close (tie.spec starts-requires returns read-as-requires returns_2)
+pub read_form_spec : {M : Type 1} → statement M
+read_form_spec = tie.close (tie.spec starts-requires returns-then-not-starts read_as-requires returns)

@@ -8,67 +8,67 @@ use Rattle.parser.proofs.NumeralWalk.{Passed, passed_none, passed_more, passed_t
 use Rattle.parser.proofs.read_numeral.Statement.{statement}
 use Rattle.parser.proofs.read_numeral.Tie as tie
 
-abbrev invariant-loop : tie.invariant-loop
-invariant-loop line from limit first digit₀ at₀ amount₀ digit at amount = Passed line from at amount digit
+abbrev invariant-loop-digit : tie.invariant-loop-digit
+invariant-loop-digit line from limit first digit₀ at₀ amount₀ digit at amount = Passed line from at amount digit
 
-abbrev decreases-loop : tie.decreases-loop
-decreases-loop line from limit first digit₀ at₀ amount₀ digit at amount = length line - at
+abbrev decreases-loop-digit : tie.decreases-loop-digit
+decreases-loop-digit line from limit first digit₀ at₀ amount₀ digit at amount = length line - at
 
-digit-at-requires : tie.Need-digit-at-requires invariant-loop decreases-loop
-digit-at-requires c κs = search rules
+digit_at-first-requires : tie.Need-digit_at-first-requires invariant-loop-digit decreases-loop-digit
+digit_at-first-requires c κs = search rules
 
-loop-holds : tie.Need-loop-init invariant-loop decreases-loop
-loop-holds c = passed_none _ _ _ c.digit_at.ensures
+loop-digit-init : tie.Need-loop-digit-init invariant-loop-digit decreases-loop-digit
+loop-digit-init c = passed_none _ _ _ c.digit_at-first.ensures
 
-more-requires : tie.Need-more-requires invariant-loop decreases-loop
-more-requires c κs = search rules
+more-amount-requires : tie.Need-more-amount-requires invariant-loop-digit decreases-loop-digit
+more-amount-requires c κs = search rules
 
-add_at : tie.Need-overflow-add-at invariant-loop decreases-loop
-add_at c = omega (arith, passed_there c.before.before.loop.invariant c.before.loop-test.true)
+overflow_add-at : tie.Need-overflow_add-at invariant-loop-digit decreases-loop-digit
+overflow_add-at c = omega (arith, passed_there c.before.before.loop-digit.invariant c.before.loop-digit-test.true)
 
-digit-at-requires-2 : tie.Need-digit-at-requires-2 invariant-loop decreases-loop
-digit-at-requires-2 c κs = search rules
+digit_at-digit-requires : tie.Need-digit_at-digit-requires invariant-loop-digit decreases-loop-digit
+digit_at-digit-requires c κs = search rules
 
-loop-less : tie.Need-loop-smaller invariant-loop decreases-loop
-loop-less c =
+loop-digit-smaller : tie.Need-loop-digit-smaller invariant-loop-digit decreases-loop-digit
+loop-digit-smaller c =
     let t = c.before.before in
-    omega (arith, passed_there t.before.loop.invariant t.loop-test.true)
+    omega (arith, passed_there t.before.loop-digit.invariant t.loop-digit-test.true)
 
-loop-again : tie.Need-loop-preserved invariant-loop decreases-loop
-loop-again c =
+loop-digit-preserved : tie.Need-loop-digit-preserved invariant-loop-digit decreases-loop-digit
+loop-digit-preserved c =
     let t = c.before.before in
-    passed_more t.before.loop.invariant t.loop-test.true c.before.more.ensures c.digit-at2.ensures
+    passed_more t.before.loop-digit.invariant t.loop-digit-test.true c.before.more-amount.ensures c.digit_at-digit.ensures
 
-sub-is-spelled : tie.Need-overflow-sub-is-spelled invariant-loop decreases-loop
-sub-is-spelled c = omega arith
+overflow_sub-at : tie.Need-overflow_sub-at invariant-loop-digit decreases-loop-digit
+overflow_sub-at c = omega arith
 
-is-spelled-requires : tie.Need-is-spelled-requires invariant-loop decreases-loop
-is-spelled-requires c κs = search rules
+is_spelled-is-requires : tie.Need-is_spelled-is-requires invariant-loop-digit decreases-loop-digit
+is_spelled-is-requires c κs = search rules
 
-exceeds-requires : tie.Need-exceeds-requires invariant-loop decreases-loop
-exceeds-requires c κs = search rules
+exceeds-large-requires : tie.Need-exceeds-large-requires invariant-loop-digit decreases-loop-digit
+exceeds-large-requires c κs = search rules
 
-returns : tie.Need-returns invariant-loop decreases-loop
+returns : tie.Need-returns invariant-loop-digit decreases-loop-digit
 returns c =
     let spelled = c.before in
     let t = spelled.before in
-    passed_all t.before.loop.invariant t.loop-test.false (omega arith) t.before.before.digit_at.ensures
-    spelled.is_spelled.ensures c.exceeds.ensures
+    passed_all t.before.loop-digit.invariant t.loop-digit-test.false (omega arith) t.before.before.digit_at-first.ensures
+    spelled.is_spelled-is.ensures c.exceeds-large.ensures
 
-pub read-numeral-spec : {M : Type 1} → statement M
-read-numeral-spec =
+pub read_numeral_spec : {M : Type 1} → statement M
+read_numeral_spec =
     tie.close
     (tie.spec
-    invariant-loop
-    decreases-loop
-    digit-at-requires
-    loop-holds
-    more-requires
-    add_at
-    digit-at-requires-2
-    loop-less
-    loop-again
-    sub-is-spelled
-    is-spelled-requires
-    exceeds-requires
+    invariant-loop-digit
+    decreases-loop-digit
+    digit_at-first-requires
+    loop-digit-init
+    more-amount-requires
+    overflow_add-at
+    digit_at-digit-requires
+    loop-digit-smaller
+    loop-digit-preserved
+    overflow_sub-at
+    is_spelled-is-requires
+    exceeds-large-requires
     returns)

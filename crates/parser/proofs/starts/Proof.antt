@@ -10,64 +10,64 @@ use Rattle.parser.proofs.Texts.{too_short, same_here, other_here, starts_none}
 use Rattle.parser.proofs.starts.Statement.{statement}
 use Rattle.parser.proofs.starts.Tie as tie
 
-abbrev invariant-loop : tie.invariant-loop
-invariant-loop line text i₀ i =
+abbrev invariant-loop-i : tie.invariant-loop-i
+invariant-loop-i line text i₀ i =
     (starts text line ≡ starts (drop i text) (drop i line)) × (length text ≤ length line) × (i ≤ length text)
 
-abbrev decreases-loop : tie.decreases-loop
-decreases-loop line text i₀ i = length text - i
+abbrev decreases-loop-i : tie.decreases-loop-i
+decreases-loop-i line text i₀ i = length text - i
 
-returns : tie.Need-returns invariant-loop decreases-loop
-returns c = too_short c.before.args.text.now c.before.args.line.now c.if1.true
+returns-then-line-text : tie.Need-returns-then-line-text invariant-loop-i decreases-loop-i
+returns-then-line-text c = too_short c.before.args.text.now c.before.args.line.now c.if-line-text.true
 
-loop-holds : tie.Need-loop-init invariant-loop decreases-loop
-loop-holds c = (refl, c.if1.false, zero-le)
+loop-i-init : tie.Need-loop-i-init invariant-loop-i decreases-loop-i
+loop-i-init c = (refl, c.if-line-text.false, zero-le)
 
 -- a turn's place lies within the line too
-within : (c : tie.In-loop invariant-loop decreases-loop) → c.before.loop.i < length c.before.before.before.args.line.now
-within c = omega (arith, c.before.loop.invariant.1, c.loop-test.true)
+within : (c : tie.In-loop-i invariant-loop-i decreases-loop-i) → c.before.loop-i.i < length c.before.before.before.args.line.now
+within c = omega (arith, c.before.loop-i.invariant.1, c.loop-i-test.true)
 
-shared-slice-read-if2 : tie.Need-shared-slice-read-if2 invariant-loop decreases-loop
-shared-slice-read-if2 c = within c.before
+bounds-line-i : tie.Need-bounds-line-i invariant-loop-i decreases-loop-i
+bounds-line-i c = within c.before
 
-shared-slice-read-if2-2 : tie.Need-shared-slice-read-if2-2 invariant-loop decreases-loop
-shared-slice-read-if2-2 c = search rules
+bounds-text-i : tie.Need-bounds-text-i invariant-loop-i decreases-loop-i
+bounds-text-i c = search rules
 
-returns_2 : tie.Need-returns-2 invariant-loop decreases-loop
-returns_2 c =
+returns-then-line-i : tie.Need-returns-then-line-i invariant-loop-i decreases-loop-i
+returns-then-line-i c =
     let turn = c.before.before.before in
     let args = turn.before.before.before.args in
-    let loop = turn.before.loop in
+    let loop = turn.before.loop-i in
     sym
     (loop.invariant.0
-    ∙ other_here args.text.now args.line.now loop.i turn.loop-test.true (within turn) c.if2.true)
+    ∙ other_here args.text.now args.line.now loop.i turn.loop-i-test.true (within turn) c.if-line-i.true)
 
-add-i : tie.Need-overflow-add-i invariant-loop decreases-loop
-add-i c = search rules
+overflow_add-i : tie.Need-overflow_add-i invariant-loop-i decreases-loop-i
+overflow_add-i c = search rules
 
-loop-less : tie.Need-loop-smaller invariant-loop decreases-loop
-loop-less c = search rules
+loop-i-smaller : tie.Need-loop-i-smaller invariant-loop-i decreases-loop-i
+loop-i-smaller c = search rules
 
-loop-again : tie.Need-loop-preserved invariant-loop decreases-loop
-loop-again c =
+loop-i-preserved : tie.Need-loop-i-preserved invariant-loop-i decreases-loop-i
+loop-i-preserved c =
     let turn = c.before.before.before in
     let args = turn.before.before.before.args in
-    let loop = turn.before.loop in (
+    let loop = turn.before.loop-i in (
       loop.invariant.0
-          ∙ same_here args.text.now args.line.now loop.i turn.loop-test.true (within turn) c.if2.false,
+          ∙ same_here args.text.now args.line.now loop.i turn.loop-i-test.true (within turn) c.if-line-i.false,
       loop.invariant.1,
-      omega (arith, turn.loop-test.true),
+      omega (arith, turn.loop-i-test.true),
     )
 
-returns-3 : tie.Need-returns-3 invariant-loop decreases-loop
-returns-3 c =
+returns : tie.Need-returns invariant-loop-i decreases-loop-i
+returns c =
     let args = c.before.before.before.args in
-    let loop = c.before.loop in
-    let past = drop_of_length-le args.text.now c.loop-test.false in
+    let loop = c.before.loop-i in
+    let past = drop_of_length-le args.text.now c.loop-i-test.false in
     sym (loop.invariant.0 ∙ ap (λ (rest : List ℕ). starts rest (drop loop.i args.line.now)) past ∙ starts_none _)
 
-pub starts-spec : {M : Type 1} → statement M
-starts-spec =
+pub starts_spec : {M : Type 1} → statement M
+starts_spec =
     tie.close
-    (tie.spec invariant-loop decreases-loop returns loop-holds shared-slice-read-if2 shared-slice-read-if2-2 returns_2 add-i loop-less
-    loop-again returns-3)
+    (tie.spec invariant-loop-i decreases-loop-i returns-then-line-text loop-i-init bounds-line-i bounds-text-i returns-then-line-i overflow_add-i loop-i-smaller
+    loop-i-preserved returns)

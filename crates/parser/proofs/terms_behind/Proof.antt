@@ -11,25 +11,25 @@ use Rattle.parser.proofs.terms_behind.Tie as tie
 starts-requires : tie.Need-starts-requires
 starts-requires c κs = search rules
 
-no-terms-requires : tie.Need-no-terms-requires
-no-terms-requires c κs = search rules
+no_terms-requires : tie.Need-no_terms-requires
+no_terms-requires c κs = search rules
+
+returns-then-not-starts : tie.Need-returns-then-not-starts
+returns-then-not-starts c =
+    let test = c.before in
+    let start = test.before.before.before.before in
+    λ call. forms_other _ _ start.requires (terms_forms call) (sym test.before.starts.ensures ∙ not-true _ test.if-not-starts.true-raw)
+    ∙ rw c.no_terms.ensures
+
+read_terms-requires : tie.Need-read_terms-requires
+read_terms-requires c κs = search rules
 
 returns : tie.Need-returns
 returns c =
     let test = c.before in
     let start = test.before.before.before.before in
-    λ call. forms_other _ _ start.requires (terms_forms call) (sym test.before.starts.ensures ∙ not-true _ test.if1.true)
-    ∙ rw c.no-terms.ensures
+    λ call. forms_behind _ _ start.requires (terms_forms call) (sym test.before.starts.ensures ∙ not-false _ test.if-not-starts.false-raw)
+    ∙ c.read_terms.ensures call
 
-read-terms-requires : tie.Need-read-terms-requires
-read-terms-requires c κs = search rules
-
-returns_2 : tie.Need-returns-2
-returns_2 c =
-    let test = c.before in
-    let start = test.before.before.before.before in
-    λ call. forms_behind _ _ start.requires (terms_forms call) (sym test.before.starts.ensures ∙ not-false _ test.if1.false)
-    ∙ c.read-terms.ensures call
-
-pub terms-behind-spec : {M : Type 1} → statement M
-terms-behind-spec = tie.close (tie.spec starts-requires no-terms-requires returns read-terms-requires returns_2)
+pub terms_behind_spec : {M : Type 1} → statement M
+terms_behind_spec = tie.close (tie.spec starts-requires no_terms-requires returns-then-not-starts read_terms-requires returns)
