@@ -7,4 +7,4 @@ use Rattle.streams.specs.declared.Reading.TheVariants.{Bytes, Failed}
 
 abbrev pub Within : Reading → List ℕ → Type 0
 Within (Bytes n) room = IsPrefixLen n room
-Within Failed room = Unit {0}
+Within (Failed error) room = Unit {0}

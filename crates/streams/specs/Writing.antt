@@ -6,4 +6,4 @@ use Rattle.streams.specs.declared.Writing.TheVariants.{Bytes, Failed}
 
 abbrev pub HandedOn : Writing → List ℕ → Type 0
 HandedOn (Bytes n) bytes = n ≡ length bytes
-HandedOn Failed bytes = Unit {0}
+HandedOn (Failed error) bytes = Unit {0}
