@@ -4,67 +4,67 @@ use Rattle.definitions.specs.Sizes.{ids}
 use Rattle.bench.proofs.bench_run.Statement.{statement}
 use Rattle.bench.proofs.bench_run.Tie as tie
 
-returns : tie.Need-returns
-returns c = search rules
+returns-then-privates-gt-IDS : tie.Need-returns-then-privates-gt-IDS
+returns-then-privates-gt-IDS c = search rules
 
-returns_2 : tie.Need-returns-2
-returns_2 c = search rules
+returns-then-indifferents-gt-IDS : tie.Need-returns-then-indifferents-gt-IDS
+returns-then-indifferents-gt-IDS c = search rules
 
-add-n : tie.Need-overflow-add-n
-add-n c = search rules
+overflow_add-n : tie.Need-overflow_add-n
+overflow_add-n c = search rules
 
-returns-3 : tie.Need-returns-3
-returns-3 c = search rules
+returns-then-n-lt1 : tie.Need-returns-then-n-lt1
+returns-then-n-lt1 c = search rules
 
-returns-4 : tie.Need-returns-4
-returns-4 c = search rules
+returns-then-depth-lt1 : tie.Need-returns-then-depth-lt1
+returns-then-depth-lt1 c = search rules
 
-returns-5 : tie.Need-returns-5
-returns-5 c = search rules
+returns-then-mode-gt-IDS : tie.Need-returns-then-mode-gt-IDS
+returns-then-mode-gt-IDS c = search rules
 
-unopened-requires : tie.Need-unopened-requires
-unopened-requires c κs = search rules
+unopened-shut-requires : tie.Need-unopened-shut-requires
+unopened-shut-requires c κs = search rules
 
-open-requires : tie.Need-open-requires
-open-requires c κs = (c.before.before.before.before.before.before.unopened.ensures _).1
+open-opened-requires : tie.Need-open-opened-requires
+open-opened-requires c κs = (c.unopened-shut.ensures _).1
 
 choose-requires : tie.Need-choose-requires
 choose-requires c κs = search rules
 
-run-stages-requires : tie.Need-run-stages-requires
+run_stages-served-requires : tie.Need-run_stages-served-requires
 unfolding ids
-run-stages-requires c κs =
-    let opened = c.before.before.before.before.before.before.before in
-    let begun = opened.before.before.before.before.before.before.before.before.before in
-    (opened.before.«open».ensures.meets.valid, omega (arith, begun.before.before.if3.false), omega arith)
+run_stages-served-requires c κs =
+    let opened = c in
+    let begun = opened in
+    (opened.open-opened.ensures.meets.valid, omega (arith, begun.if-n-lt1.false), omega arith)
 
-returns-6 : tie.Need-returns-6
-returns-6 c = search rules
+returns-then-slots : tie.Need-returns-then-slots
+returns-then-slots c = search rules
 
-refused-rounds-requires : tie.Need-refused-rounds-requires
-refused-rounds-requires c κs =
-    let served = c.before.before.before.before.before.before.before in
-    let opened = served.before.before.before.before.before.before.before.before in
-    let begun = opened.before.before.before.before.before.before.before.before.before in
-    (served.run-stages.ensures, omega (arith, begun.before.before.if3.false), omega (arith, begun.if5.false))
+refused_rounds-requires : tie.Need-refused_rounds-requires
+refused_rounds-requires c κs =
+    let served = c in
+    let opened = served in
+    let begun = opened in
+    (served.run_stages-served.ensures, omega (arith, begun.if-n-lt1.false), omega (arith, begun.if-mode-gt-IDS.false))
 
-returns-7 : tie.Need-returns-7
-returns-7 c = search rules
+returns : tie.Need-returns
+returns c = search rules
 
-pub bench-run-spec : {M : Type 1} → statement M
-bench-run-spec =
+pub bench_run_spec : {M : Type 1} → statement M
+bench_run_spec =
     tie.close
     (tie.spec
-    returns
-    returns_2
-    add-n
-    returns-3
-    returns-4
-    returns-5
-    unopened-requires
-    open-requires
+    returns-then-privates-gt-IDS
+    returns-then-indifferents-gt-IDS
+    overflow_add-n
+    returns-then-n-lt1
+    returns-then-depth-lt1
+    returns-then-mode-gt-IDS
+    unopened-shut-requires
+    open-opened-requires
     choose-requires
-    run-stages-requires
-    returns-6
-    refused-rounds-requires
-    returns-7)
+    run_stages-served-requires
+    returns-then-slots
+    refused_rounds-requires
+    returns)

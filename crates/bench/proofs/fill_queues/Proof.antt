@@ -5,32 +5,32 @@ use Rattle.tables.specs.Invariant.{Valid}
 use Rattle.bench.proofs.fill_queues.Statement.{statement}
 use Rattle.bench.proofs.fill_queues.Tie as tie
 
-abbrev invariant-loop : tie.invariant-loop
-invariant-loop terms₀ stocks₀ handles₀ lengths₀ links₀ counts₀ n each at₀ id₀ terms stocks handles lengths links counts at id =
+abbrev invariant-loop-id : tie.invariant-loop-id
+invariant-loop-id terms₀ stocks₀ handles₀ lengths₀ links₀ counts₀ n each at₀ id₀ terms stocks handles lengths links counts at id =
     Valid at (tables terms stocks handles lengths links counts) × (id ≤ n)
 
-abbrev decreases-loop : tie.decreases-loop
-decreases-loop terms₀ stocks₀ handles₀ lengths₀ links₀ counts₀ n each at₀ id₀ terms stocks handles lengths links counts at id = n - id
+abbrev decreases-loop-id : tie.decreases-loop-id
+decreases-loop-id terms₀ stocks₀ handles₀ lengths₀ links₀ counts₀ n each at₀ id₀ terms stocks handles lengths links counts at id = n - id
 
-loop-holds : tie.Need-loop-init invariant-loop decreases-loop
-loop-holds c = search rules
+loop-id-init : tie.Need-loop-id-init invariant-loop-id decreases-loop-id
+loop-id-init c = search rules
 
-fill-queue-requires : tie.Need-fill-queue-requires invariant-loop decreases-loop
-fill-queue-requires c κs = search rules
+fill_queue-at-requires : tie.Need-fill_queue-at-requires invariant-loop-id decreases-loop-id
+fill_queue-at-requires c κs = search rules
 
-add-id : tie.Need-overflow-add-id invariant-loop decreases-loop
-add-id c = search rules
+overflow_add-id : tie.Need-overflow_add-id invariant-loop-id decreases-loop-id
+overflow_add-id c = search rules
 
-loop-less : tie.Need-loop-smaller invariant-loop decreases-loop
-loop-less c = search rules
+loop-id-smaller : tie.Need-loop-id-smaller invariant-loop-id decreases-loop-id
+loop-id-smaller c = search rules
 
-loop-again : tie.Need-loop-preserved invariant-loop decreases-loop
-loop-again c = search rules
+loop-id-preserved : tie.Need-loop-id-preserved invariant-loop-id decreases-loop-id
+loop-id-preserved c = search rules
 
-returns : tie.Need-returns invariant-loop decreases-loop
+returns : tie.Need-returns invariant-loop-id decreases-loop-id
 returns c = search rules
 
-pub fill-queues-spec : {M : Type 1} → statement M
-fill-queues-spec =
+pub fill_queues_spec : {M : Type 1} → statement M
+fill_queues_spec =
     tie.close
-    (tie.spec invariant-loop decreases-loop loop-holds fill-queue-requires add-id loop-less loop-again returns)
+    (tie.spec invariant-loop-id decreases-loop-id loop-id-init fill_queue-at-requires overflow_add-id loop-id-smaller loop-id-preserved returns)

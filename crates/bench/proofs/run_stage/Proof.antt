@@ -3,21 +3,21 @@ use Rattle.std.proofs.Common.{rules}
 use Rattle.bench.proofs.run_stage.Statement.{statement}
 use Rattle.bench.proofs.run_stage.Tie as tie
 
-join-ids-requires : tie.Need-join-ids-requires
-join-ids-requires c κs = search rules
+join_ids-joined-requires : tie.Need-join_ids-joined-requires
+join_ids-joined-requires c κs = search rules
 
-fill-queues-requires : tie.Need-fill-queues-requires
-fill-queues-requires c κs = search rules
+fill_queues-filled-requires : tie.Need-fill_queues-filled-requires
+fill_queues-filled-requires c κs = search rules
 
-traffic-rounds-requires : tie.Need-traffic-rounds-requires
-traffic-rounds-requires c κs =
-    let filled = c.before.before.before.before.before.before in
-    let joined = filled.before.before.before.before.before.before.before in
-    let start = joined.before.before.before.before.before.before.before in
-    (filled.fill-queues.ensures, start.requires.1)
+traffic_rounds-requires : tie.Need-traffic_rounds-requires
+traffic_rounds-requires c κs =
+    let filled = c in
+    let joined = filled in
+    let start = joined in
+    (filled.fill_queues-filled.ensures, start.requires.1)
 
 returns : tie.Need-returns
 returns c = search rules
 
-pub run-stage-spec : {M : Type 1} → statement M
-run-stage-spec = tie.close (tie.spec join-ids-requires fill-queues-requires traffic-rounds-requires returns)
+pub run_stage_spec : {M : Type 1} → statement M
+run_stage_spec = tie.close (tie.spec join_ids-joined-requires fill_queues-filled-requires traffic_rounds-requires returns)

@@ -5,36 +5,36 @@ use Rattle.tables.specs.Invariant.{Valid}
 use Rattle.bench.proofs.run_stages.Statement.{statement}
 use Rattle.bench.proofs.run_stages.Tie as tie
 
-abbrev invariant-loop : tie.invariant-loop
-invariant-loop terms₀ stocks₀ handles₀ lengths₀ links₀ counts₀ n indifferents each rounds at₀ k₀ terms stocks handles lengths links counts at k =
+abbrev invariant-loop-k : tie.invariant-loop-k
+invariant-loop-k terms₀ stocks₀ handles₀ lengths₀ links₀ counts₀ n indifferents each rounds at₀ k₀ terms stocks handles lengths links counts at k =
     Valid at.control (tables terms stocks handles lengths links counts) × (k ≤ 2)
 
-abbrev decreases-loop : tie.decreases-loop
-decreases-loop terms₀ stocks₀ handles₀ lengths₀ links₀ counts₀ n indifferents each rounds at₀ k₀ terms stocks handles lengths links counts
+abbrev decreases-loop-k : tie.decreases-loop-k
+decreases-loop-k terms₀ stocks₀ handles₀ lengths₀ links₀ counts₀ n indifferents each rounds at₀ k₀ terms stocks handles lengths links counts
     at k = 2 - k
 
-loop-holds : tie.Need-loop-init invariant-loop decreases-loop
-loop-holds c = search rules
+loop-k-init : tie.Need-loop-k-init invariant-loop-k decreases-loop-k
+loop-k-init c = search rules
 
-stage-of-requires : tie.Need-stage-of-requires invariant-loop decreases-loop
-stage-of-requires c κs = search rules
+stage_of-s-requires : tie.Need-stage_of-s-requires invariant-loop-k decreases-loop-k
+stage_of-s-requires c κs = search rules
 
-run-stage-requires : tie.Need-run-stage-requires invariant-loop decreases-loop
-run-stage-requires c κs = search rules
+run_stage-at-requires : tie.Need-run_stage-at-requires invariant-loop-k decreases-loop-k
+run_stage-at-requires c κs = search rules
 
-add-k : tie.Need-overflow-add-k invariant-loop decreases-loop
-add-k c = search rules
+overflow_add-k : tie.Need-overflow_add-k invariant-loop-k decreases-loop-k
+overflow_add-k c = search rules
 
-loop-less : tie.Need-loop-smaller invariant-loop decreases-loop
-loop-less c = search rules
+loop-k-smaller : tie.Need-loop-k-smaller invariant-loop-k decreases-loop-k
+loop-k-smaller c = search rules
 
-loop-again : tie.Need-loop-preserved invariant-loop decreases-loop
-loop-again c = search rules
+loop-k-preserved : tie.Need-loop-k-preserved invariant-loop-k decreases-loop-k
+loop-k-preserved c = search rules
 
-returns : tie.Need-returns invariant-loop decreases-loop
+returns : tie.Need-returns invariant-loop-k decreases-loop-k
 returns c = search rules
 
-pub run-stages-spec : {M : Type 1} → statement M
-run-stages-spec =
+pub run_stages_spec : {M : Type 1} → statement M
+run_stages_spec =
     tie.close
-    (tie.spec invariant-loop decreases-loop loop-holds stage-of-requires run-stage-requires add-k loop-less loop-again returns)
+    (tie.spec invariant-loop-k decreases-loop-k loop-k-init stage_of-s-requires run_stage-at-requires overflow_add-k loop-k-smaller loop-k-preserved returns)

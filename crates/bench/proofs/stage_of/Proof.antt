@@ -4,22 +4,22 @@ use Rattle.definitions.specs.Sizes.{ids}
 use Rattle.bench.proofs.stage_of.Statement.{statement}
 use Rattle.bench.proofs.stage_of.Tie as tie
 
-div-rate : tie.Need-nonzero-div-rate
-div-rate c = search rules
+nonzero_div-rate : tie.Need-nonzero_div-rate
+nonzero_div-rate c = search rules
 
-mul-ticks : tie.Need-overflow-mul-ticks
+overflow_mul-ticks : tie.Need-overflow_mul-ticks
 unfolding ids
-mul-ticks c = search rules
+overflow_mul-ticks c = search rules
 
-add-t9 : tie.Need-overflow-add-t9
+overflow_add-result : tie.Need-overflow_add-result
 unfolding ids
-add-t9 c = search rules
+overflow_add-result c = search rules
+
+returns-then-k-eq0 : tie.Need-returns-then-k-eq0
+returns-then-k-eq0 c = search rules
 
 returns : tie.Need-returns
 returns c = search rules
 
-returns_2 : tie.Need-returns-2
-returns_2 c = search rules
-
-pub stage-of-spec : {M : Type 1} → statement M
-stage-of-spec = tie.close (tie.spec div-rate mul-ticks add-t9 returns returns_2)
+pub stage_of_spec : {M : Type 1} → statement M
+stage_of_spec = tie.close (tie.spec nonzero_div-rate overflow_mul-ticks overflow_add-result returns-then-k-eq0 returns)

@@ -5,36 +5,36 @@ use Rattle.tables.specs.Invariant.{Valid}
 use Rattle.bench.proofs.traffic_rounds.Statement.{statement}
 use Rattle.bench.proofs.traffic_rounds.Tie as tie
 
-abbrev invariant-loop : tie.invariant-loop
-invariant-loop terms₀ stocks₀ handles₀ lengths₀ links₀ counts₀ first n rounds at₀ id₀ k₀ terms stocks handles lengths links counts at id k =
+abbrev invariant-loop-k : tie.invariant-loop-k
+invariant-loop-k terms₀ stocks₀ handles₀ lengths₀ links₀ counts₀ first n rounds at₀ id₀ k₀ terms stocks handles lengths links counts at id k =
     Valid at.control (tables terms stocks handles lengths links counts) × (id < n) × (k ≤ rounds)
 
-abbrev decreases-loop : tie.decreases-loop
-decreases-loop terms₀ stocks₀ handles₀ lengths₀ links₀ counts₀ first n rounds at₀ id₀ k₀ terms stocks handles lengths links counts at id k
+abbrev decreases-loop-k : tie.decreases-loop-k
+decreases-loop-k terms₀ stocks₀ handles₀ lengths₀ links₀ counts₀ first n rounds at₀ id₀ k₀ terms stocks handles lengths links counts at id k
     = rounds - k
 
-loop-holds : tie.Need-loop-init invariant-loop decreases-loop
-loop-holds c = search rules
+loop-k-init : tie.Need-loop-k-init invariant-loop-k decreases-loop-k
+loop-k-init c = search rules
 
-traffic-round-requires : tie.Need-traffic-round-requires invariant-loop decreases-loop
-traffic-round-requires c κs = search rules
+traffic_round-at-requires : tie.Need-traffic_round-at-requires invariant-loop-k decreases-loop-k
+traffic_round-at-requires c κs = search rules
 
-next-requires : tie.Need-next-requires invariant-loop decreases-loop
-next-requires c κs = search rules
+next-id-requires : tie.Need-next-id-requires invariant-loop-k decreases-loop-k
+next-id-requires c κs = search rules
 
-add-k : tie.Need-overflow-add-k invariant-loop decreases-loop
-add-k c = search rules
+overflow_add-k : tie.Need-overflow_add-k invariant-loop-k decreases-loop-k
+overflow_add-k c = search rules
 
-loop-less : tie.Need-loop-smaller invariant-loop decreases-loop
-loop-less c = search rules
+loop-k-smaller : tie.Need-loop-k-smaller invariant-loop-k decreases-loop-k
+loop-k-smaller c = search rules
 
-loop-again : tie.Need-loop-preserved invariant-loop decreases-loop
-loop-again c = search rules
+loop-k-preserved : tie.Need-loop-k-preserved invariant-loop-k decreases-loop-k
+loop-k-preserved c = search rules
 
-returns : tie.Need-returns invariant-loop decreases-loop
+returns : tie.Need-returns invariant-loop-k decreases-loop-k
 returns c = search rules
 
-pub traffic-rounds-spec : {M : Type 1} → statement M
-traffic-rounds-spec =
+pub traffic_rounds_spec : {M : Type 1} → statement M
+traffic_rounds_spec =
     tie.close
-    (tie.spec invariant-loop decreases-loop loop-holds traffic-round-requires next-requires add-k loop-less loop-again returns)
+    (tie.spec invariant-loop-k decreases-loop-k loop-k-init traffic_round-at-requires next-id-requires overflow_add-k loop-k-smaller loop-k-preserved returns)
