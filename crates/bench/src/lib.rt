@@ -432,8 +432,7 @@ fn choose(first: bool, a: u32, b: u32) -> u32 {
 }
 
 // A whole sequence on a fresh core: mode 0 is arrivals and ticks, mode 64 only refused calls.
-#[unsafe(no_mangle)]
-pub extern "C" fn bench_run(
+pub fn bench_run(
     privates: u32,
     indifferents: u32,
     discipline: u32,
@@ -545,8 +544,7 @@ fn fair_rounds(
 }
 
 // Fair rates of lists of so many demands, none of them above the highest.
-#[unsafe(no_mangle)]
-pub extern "C" fn bench_fair(count: u32, threshold: u32, highest: u32, rounds: u32) -> u64 {
+pub fn bench_fair(count: u32, threshold: u32, highest: u32, rounds: u32) -> u64 {
     if IDS < count {
         return 0;
     }

@@ -269,8 +269,7 @@ fn emptying(
 }
 
 // Rounds that empty clients with packets waiting.
-#[unsafe(no_mangle)]
-pub extern "C" fn bench_emptying(
+pub fn bench_emptying(
     clients: u32,
     kind: u32,
     each: u32,
@@ -381,8 +380,7 @@ fn opens(
 }
 
 // Rounds of opening anew.
-#[unsafe(no_mangle)]
-pub extern "C" fn bench_opening(rounds: u32) -> u64 {
+pub fn bench_opening(rounds: u32) -> u64 {
     let mut terms = [0; TERMS];
     let mut stocks = [0; STOCKS];
     let mut handles = [0; STORE];

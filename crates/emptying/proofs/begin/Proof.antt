@@ -3,14 +3,14 @@ use Rattle.std.proofs.Common.{rules}
 use Rattle.emptying.proofs.begin.Statement.{statement}
 use Rattle.emptying.proofs.begin.Tie as tie
 
-unopened-requires : tie.Need-unopened-requires
-unopened-requires c κs = search rules
+unopened-shut-requires : tie.Need-unopened-shut-requires
+unopened-shut-requires c κs = search rules
 
-open-requires : tie.Need-open-requires
-open-requires c κs = (c.before.before.before.before.before.before.unopened.ensures _).1
+open-r-requires : tie.Need-open-r-requires
+open-r-requires c κs = (c.before.before.before.before.before.before.unopened-shut.ensures _).1
 
 returns : tie.Need-returns
 returns c = search rules
 
-pub begin-spec : {M : Type 1} → statement M
-begin-spec = tie.close (tie.spec unopened-requires open-requires returns)
+pub begin_spec : {M : Type 1} → statement M
+begin_spec = tie.close (tie.spec unopened-shut-requires open-r-requires returns)

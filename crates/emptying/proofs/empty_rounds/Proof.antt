@@ -5,36 +5,36 @@ use Rattle.tables.specs.Invariant.{Valid}
 use Rattle.emptying.proofs.empty_rounds.Statement.{statement}
 use Rattle.emptying.proofs.empty_rounds.Tie as tie
 
-abbrev invariant-loop : tie.invariant-loop
-invariant-loop control terms₀ stocks₀ handles lengths links₀ counts₀ end plan rounds kept-terms kept-stocks kept-links kept-counts at₀ k₀
+abbrev invariant-loop-k : tie.invariant-loop-k
+invariant-loop-k control terms₀ stocks₀ handles lengths links₀ counts₀ end plan rounds kept-terms kept-stocks kept-links kept-counts at₀ k₀
     terms stocks links counts at k =
     Valid at.control (tables terms stocks handles lengths links counts)
     × Valid control (tables kept-terms kept-stocks handles lengths kept-links kept-counts)
     × (k ≤ rounds)
 
-abbrev decreases-loop : tie.decreases-loop
-decreases-loop control terms₀ stocks₀ handles lengths links₀ counts₀ end plan rounds kept-terms kept-stocks kept-links kept-counts at₀ k₀
+abbrev decreases-loop-k : tie.decreases-loop-k
+decreases-loop-k control terms₀ stocks₀ handles lengths links₀ counts₀ end plan rounds kept-terms kept-stocks kept-links kept-counts at₀ k₀
     terms stocks links counts at k = rounds - k
 
-loop-holds : tie.Need-loop-init invariant-loop decreases-loop
-loop-holds c = search rules
+loop-k-init : tie.Need-loop-k-init invariant-loop-k decreases-loop-k
+loop-k-init c = search rules
 
-empty-ids-requires : tie.Need-empty-ids-requires invariant-loop decreases-loop
-empty-ids-requires c κs = search rules
+empty_ids-at-requires : tie.Need-empty_ids-at-requires invariant-loop-k decreases-loop-k
+empty_ids-at-requires c κs = search rules
 
-add-k : tie.Need-overflow-add-k invariant-loop decreases-loop
-add-k c = search rules
+overflow_add-k : tie.Need-overflow_add-k invariant-loop-k decreases-loop-k
+overflow_add-k c = search rules
 
-loop-less : tie.Need-loop-smaller invariant-loop decreases-loop
-loop-less c = search rules
+loop-k-smaller : tie.Need-loop-k-smaller invariant-loop-k decreases-loop-k
+loop-k-smaller c = search rules
 
-loop-again : tie.Need-loop-preserved invariant-loop decreases-loop
-loop-again c = search rules
+loop-k-preserved : tie.Need-loop-k-preserved invariant-loop-k decreases-loop-k
+loop-k-preserved c = search rules
 
-returns : tie.Need-returns invariant-loop decreases-loop
+returns : tie.Need-returns invariant-loop-k decreases-loop-k
 returns c = search rules
 
-pub empty-rounds-spec : {M : Type 1} → statement M
-empty-rounds-spec =
+pub empty_rounds_spec : {M : Type 1} → statement M
+empty_rounds_spec =
     tie.close
-    (tie.spec invariant-loop decreases-loop loop-holds empty-ids-requires add-k loop-less loop-again returns)
+    (tie.spec invariant-loop-k decreases-loop-k loop-k-init empty_ids-at-requires overflow_add-k loop-k-smaller loop-k-preserved returns)

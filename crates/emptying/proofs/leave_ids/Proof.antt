@@ -5,35 +5,35 @@ use Rattle.tables.specs.Invariant.{Valid}
 use Rattle.emptying.proofs.leave_ids.Statement.{statement}
 use Rattle.emptying.proofs.leave_ids.Tie as tie
 
-abbrev invariant-loop : tie.invariant-loop
-invariant-loop terms₀ stocks₀ handles lengths links₀ counts₀ end before at₀ sum₀ id₀ terms stocks links counts at sum id =
+abbrev invariant-loop-id : tie.invariant-loop-id
+invariant-loop-id terms₀ stocks₀ handles lengths links₀ counts₀ end before at₀ sum₀ id₀ terms stocks links counts at sum id =
     Valid at (tables terms stocks handles lengths links counts)
 
-abbrev decreases-loop : tie.decreases-loop
-decreases-loop terms₀ stocks₀ handles lengths links₀ counts₀ end before at₀ sum₀ id₀ terms stocks links counts at sum id = end - id
+abbrev decreases-loop-id : tie.decreases-loop-id
+decreases-loop-id terms₀ stocks₀ handles lengths links₀ counts₀ end before at₀ sum₀ id₀ terms stocks links counts at sum id = end - id
 
-loop-holds : tie.Need-loop-init invariant-loop decreases-loop
-loop-holds c = search rules
+loop-id-init : tie.Need-loop-id-init invariant-loop-id decreases-loop-id
+loop-id-init c = search rules
 
-leave-requires : tie.Need-leave-requires invariant-loop decreases-loop
-leave-requires c κs = search rules
+leave-r-requires : tie.Need-leave-r-requires invariant-loop-id decreases-loop-id
+leave-r-requires c κs = search rules
 
-add-requires : tie.Need-add-requires invariant-loop decreases-loop
-add-requires c κs = search rules
+add-sum-requires : tie.Need-add-sum-requires invariant-loop-id decreases-loop-id
+add-sum-requires c κs = search rules
 
-add-id : tie.Need-overflow-add-id invariant-loop decreases-loop
-add-id c = search rules
+overflow_add-id : tie.Need-overflow_add-id invariant-loop-id decreases-loop-id
+overflow_add-id c = search rules
 
-loop-less : tie.Need-loop-smaller invariant-loop decreases-loop
-loop-less c = search rules
+loop-id-smaller : tie.Need-loop-id-smaller invariant-loop-id decreases-loop-id
+loop-id-smaller c = search rules
 
-loop-again : tie.Need-loop-preserved invariant-loop decreases-loop
-loop-again c = search rules
+loop-id-preserved : tie.Need-loop-id-preserved invariant-loop-id decreases-loop-id
+loop-id-preserved c = search rules
 
-returns : tie.Need-returns invariant-loop decreases-loop
+returns : tie.Need-returns invariant-loop-id decreases-loop-id
 returns c = search rules
 
-pub leave-ids-spec : {M : Type 1} → statement M
-leave-ids-spec =
+pub leave_ids_spec : {M : Type 1} → statement M
+leave_ids_spec =
     tie.close
-    (tie.spec invariant-loop decreases-loop loop-holds leave-requires add-requires add-id loop-less loop-again returns)
+    (tie.spec invariant-loop-id decreases-loop-id loop-id-init leave-r-requires add-sum-requires overflow_add-id loop-id-smaller loop-id-preserved returns)

@@ -5,38 +5,38 @@ use Rattle.tables.specs.Invariant.{Valid}
 use Rattle.emptying.proofs.open_rounds.Statement.{statement}
 use Rattle.emptying.proofs.open_rounds.Tie as tie
 
-abbrev invariant-loop : tie.invariant-loop
-invariant-loop terms₀ stocks₀ handles₀ lengths₀ links₀ counts₀ rounds at₀ sum₀ k₀ terms stocks handles lengths links counts at sum k =
+abbrev invariant-loop-k : tie.invariant-loop-k
+invariant-loop-k terms₀ stocks₀ handles₀ lengths₀ links₀ counts₀ rounds at₀ sum₀ k₀ terms stocks handles lengths links counts at sum k =
     Valid at (tables terms stocks handles lengths links counts) × (k ≤ rounds)
 
-abbrev decreases-loop : tie.decreases-loop
-decreases-loop terms₀ stocks₀ handles₀ lengths₀ links₀ counts₀ rounds at₀ sum₀ k₀ terms stocks handles lengths links counts at sum k = rounds - k
+abbrev decreases-loop-k : tie.decreases-loop-k
+decreases-loop-k terms₀ stocks₀ handles₀ lengths₀ links₀ counts₀ rounds at₀ sum₀ k₀ terms stocks handles lengths links counts at sum k = rounds - k
 
-loop-holds : tie.Need-loop-init invariant-loop decreases-loop
-loop-holds c = search rules
+loop-k-init : tie.Need-loop-k-init invariant-loop-k decreases-loop-k
+loop-k-init c = search rules
 
-add_open : tie.Need-overflow-add-open invariant-loop decreases-loop
-add_open c = search rules
+overflow_add-k : tie.Need-overflow_add-k invariant-loop-k decreases-loop-k
+overflow_add-k c = search rules
 
-open-requires : tie.Need-open-requires invariant-loop decreases-loop
-open-requires c κs = search rules
+open-r-requires : tie.Need-open-r-requires invariant-loop-k decreases-loop-k
+open-r-requires c κs = search rules
 
-add-requires : tie.Need-add-requires invariant-loop decreases-loop
-add-requires c κs = search rules
+add-sum-requires : tie.Need-add-sum-requires invariant-loop-k decreases-loop-k
+add-sum-requires c κs = search rules
 
-add-k : tie.Need-overflow-add-k invariant-loop decreases-loop
-add-k c = search rules
+overflow_add-k-in-loop-k : tie.Need-overflow_add-k-in-loop-k invariant-loop-k decreases-loop-k
+overflow_add-k-in-loop-k c = search rules
 
-loop-less : tie.Need-loop-smaller invariant-loop decreases-loop
-loop-less c = search rules
+loop-k-smaller : tie.Need-loop-k-smaller invariant-loop-k decreases-loop-k
+loop-k-smaller c = search rules
 
-loop-again : tie.Need-loop-preserved invariant-loop decreases-loop
-loop-again c = search rules
+loop-k-preserved : tie.Need-loop-k-preserved invariant-loop-k decreases-loop-k
+loop-k-preserved c = search rules
 
-returns : tie.Need-returns invariant-loop decreases-loop
+returns : tie.Need-returns invariant-loop-k decreases-loop-k
 returns c = search rules
 
-pub open-rounds-spec : {M : Type 1} → statement M
-open-rounds-spec =
+pub open_rounds_spec : {M : Type 1} → statement M
+open_rounds_spec =
     tie.close
-    (tie.spec invariant-loop decreases-loop loop-holds add_open open-requires add-requires add-k loop-less loop-again returns)
+    (tie.spec invariant-loop-k decreases-loop-k loop-k-init overflow_add-k open-r-requires add-sum-requires overflow_add-k-in-loop-k loop-k-smaller loop-k-preserved returns)
