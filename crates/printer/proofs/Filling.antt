@@ -1,7 +1,7 @@
 -- The walk over a template that is written with numbers in its gaps: what is left to write is what is left of the template, filled with
 -- the numbers that are left. A turn writes a number, where the next byte is a gap and a number is left, or else that byte. Assumes
 -- nothing.
-use Prim.Native.Nat.{ℕ, suc, ◌+◌, ◌≤◌, ◌<◌, zero-le}
+use Prim.Native.Nat.{ℕ, ◌+◌, ◌≤◌, ◌<◌, zero-le}
 use native.Mathlib.Omega.{arith}
 use native.Mathlib.Numerals.{add-one}
 use mathlib.Core.Path.{◌≡◌, refl, ap, ap₂, ◌∙◌}

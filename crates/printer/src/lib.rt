@@ -1,5 +1,7 @@
 // Prints answers (paper 01, "Script and printout"), the sentences of a sheet, the figure of a forecast, fair rates and counts: each as a
 // line of text, into bytes that are lent, from a place on.
+#![tactic(auto)]
+
 ghost use Rattle.std.specs.Prelude.{◌+◌, ◌/◌, ◌%◌, ◌≤◌, ◌<◌, ◌≡◌, ◌&&◌, [], ◌∷◌, ◌++◌, leb, ltb, length};
 ghost use Rattle.grammar.specs.Numerals.{decimal};
 ghost use Rattle.grammar.specs.Templates.{is_gap, filled};

@@ -15,11 +15,11 @@ same_test room size at enough =
     lt_cases size (at + room) (λ none. rw (lt-leb (at + room) size none) (lt-leb at (size - room) (omega arith)))
     (λ fits. rw (le-leb (at + room) size fits) (le-leb at (size - room) (omega arith)))
 
+returns-then-size-lt-LINE_ROOM : tie.Need-returns-then-size-lt-LINE_ROOM
+returns-then-size-lt-LINE_ROOM c = sym (lt-leb (c.before.args.at + line_room) c.before.args.size (omega arith))
+
 returns : tie.Need-returns
-returns c = sym (lt-leb (c.before.args.at + line_room) c.before.args.size (omega arith))
+returns c = same_test line_room c.before.args.size c.before.args.at (omega arith)
 
-returns_2 : tie.Need-returns-2
-returns_2 c = same_test line_room c.before.args.size c.before.args.at (omega arith)
-
-pub has-room-spec : {M : Type 1} → statement M
-has-room-spec = tie.close (tie.spec returns returns_2)
+pub has_room_spec : {M : Type 1} → statement M
+has_room_spec = tie.close (tie.spec returns-then-size-lt-LINE_ROOM returns)

@@ -3,11 +3,11 @@ use borrow.Author.Tests.{eq-eqb, ne_eqb}
 use Rattle.printer.proofs.is_gap.Statement.{statement}
 use Rattle.printer.proofs.is_gap.Tie as tie
 
+returns-then-byte-eq-NUMBER : tie.Need-returns-then-byte-eq-NUMBER
+returns-then-byte-eq-NUMBER c = rw (eq-eqb _ _ c.if-byte-eq-NUMBER.true)
+
 returns : tie.Need-returns
-returns c = rw (eq-eqb _ _ c.if1.true)
+returns c = rw (ne_eqb _ _ c.if-byte-eq-NUMBER.false)
 
-returns_2 : tie.Need-returns-2
-returns_2 c = rw (ne_eqb _ _ c.if1.false)
-
-pub is-gap-spec : {M : Type 1} → statement M
-is-gap-spec = tie.close (tie.spec returns returns_2)
+pub is_gap_spec : {M : Type 1} → statement M
+is_gap_spec = tie.close (tie.spec returns-then-byte-eq-NUMBER returns)

@@ -12,11 +12,11 @@ use Rattle.printer.proofs.Appending.{Left, left_all, left_room, left_less, left_
 use Rattle.printer.proofs.put.Statement.{statement}
 use Rattle.printer.proofs.put.Tie as tie
 
-abbrev invariant-loop : tie.invariant-loop
-invariant-loop out₀ at text i₀ out i = Left text out₀ at (drop i text) out (at + i) × (i ≤ length text)
+abbrev invariant-loop-i : tie.invariant-loop-i
+invariant-loop-i out₀ at text i₀ out i = Left text out₀ at (drop i text) out (at + i) × (i ≤ length text)
 
-abbrev decreases-loop : tie.decreases-loop
-decreases-loop out₀ at text i₀ out i = length text - i
+abbrev decreases-loop-i : tie.decreases-loop-i
+decreases-loop-i out₀ at text i₀ out i = length text - i
 
 -- a turn writes the byte that is next
 module _ {text before now : List ℕ} {at i : ℕ} (left : Left text before at (drop i text) now (at + i)) (more : i < length text)
@@ -32,41 +32,41 @@ module _ {text before now : List ℕ} {at i : ℕ} (left : Left text before at (
         left_less left (get_or text i 0 ∷ []) _ next
         (record { place = omega arith; room = omega (arith, room); bytes = refl })
 
-loop-holds : tie.Need-loop-init invariant-loop decreases-loop
-loop-holds c = (rw add-zero (left_all _ _ _ c.requires), zero-le)
+loop-i-init : tie.Need-loop-i-init invariant-loop-i decreases-loop-i
+loop-i-init c = (rw add-zero (left_all _ _ _ c.requires), zero-le)
 
-shared-slice-read-out : tie.Need-shared-slice-read-out invariant-loop decreases-loop
-shared-slice-read-out c = search rules
+bounds-text-i : tie.Need-bounds-text-i invariant-loop-i decreases-loop-i
+bounds-text-i c = search rules
 
-add-out : tie.Need-overflow-add-out invariant-loop decreases-loop
-add-out c = search rules
+overflow_add-out : tie.Need-overflow_add-out invariant-loop-i decreases-loop-i
+overflow_add-out c = search rules
 
-slice-write-out : tie.Need-slice-write-out invariant-loop decreases-loop
-slice-write-out c = room c.before.before.loop.invariant.0 c.before.loop-test.true
+bounds-out-at : tie.Need-bounds-out-at invariant-loop-i decreases-loop-i
+bounds-out-at c = room c.before.before.loop-i.invariant.0 c.before.loop-i-test.true
 
-add-i : tie.Need-overflow-add-i invariant-loop decreases-loop
-add-i c = search rules
+overflow_add-i : tie.Need-overflow_add-i invariant-loop-i decreases-loop-i
+overflow_add-i c = search rules
 
-loop-less : tie.Need-loop-smaller invariant-loop decreases-loop
-loop-less c = search rules
+loop-i-smaller : tie.Need-loop-i-smaller invariant-loop-i decreases-loop-i
+loop-i-smaller c = search rules
 
-loop-again : tie.Need-loop-preserved invariant-loop decreases-loop
-loop-again c =
-    (less c.before.before.loop.invariant.0 c.before.loop-test.true, omega (arith, c.before.loop-test.true))
+loop-i-preserved : tie.Need-loop-i-preserved invariant-loop-i decreases-loop-i
+loop-i-preserved c =
+    (less c.before.before.loop-i.invariant.0 c.before.loop-i-test.true, omega (arith, c.before.loop-i-test.true))
 
-add-result : tie.Need-overflow-add-result invariant-loop decreases-loop
-add-result c = search rules
+overflow_add-result : tie.Need-overflow_add-result invariant-loop-i decreases-loop-i
+overflow_add-result c = search rules
 
-same_length : tie.Need-same-length invariant-loop decreases-loop
-same_length c = c.before.loop.invariant.0.same
+shape_of-out : tie.Need-shape_of-out invariant-loop-i decreases-loop-i
+shape_of-out c = c.before.loop-i.invariant.0.same
 
-returns : tie.Need-returns invariant-loop decreases-loop
+returns : tie.Need-returns invariant-loop-i decreases-loop-i
 returns c =
-    let past = drop_of_length-le c.before.before.args.text.now c.loop-test.false in
-    left_none (rw past at c.before.loop.invariant.0)
+    let past = drop_of_length-le c.before.before.args.text.now c.loop-i-test.false in
+    left_none (rw past at c.before.loop-i.invariant.0)
 
 pub put_spec : {M : Type 1} → statement M
 put_spec =
     tie.close
-    (tie.spec invariant-loop decreases-loop loop-holds shared-slice-read-out add-out slice-write-out add-i loop-less loop-again add-result
-    same_length returns)
+    (tie.spec invariant-loop-i decreases-loop-i loop-i-init bounds-text-i overflow_add-out bounds-out-at overflow_add-i loop-i-smaller loop-i-preserved overflow_add-result
+    shape_of-out returns)

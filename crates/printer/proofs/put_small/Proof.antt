@@ -12,43 +12,43 @@ use Rattle.printer.proofs.Appending.{appended_byte, appended_as}
 use Rattle.printer.proofs.put_small.Statement.{statement}
 use Rattle.printer.proofs.put_small.Tie as tie
 
-add-out : tie.Need-overflow-add-out
-add-out c = search rules
+overflow_add-out : tie.Need-overflow_add-out
+overflow_add-out c = search rules
 
-cast-out : tie.Need-overflow-cast-out
-cast-out c = search rules
+overflow_cast-out : tie.Need-overflow_cast-out
+overflow_cast-out c = search rules
 
-slice-write-out : tie.Need-slice-write-out
-slice-write-out c = omega (arith, decimal_some c.before.before.args.n)
+bounds-out-at : tie.Need-bounds-out-at
+bounds-out-at c = omega (arith, decimal_some c.before.before.args.n)
 
-add-result : tie.Need-overflow-add-result
-add-result c = omega (arith, decimal_some c.before.before.args.n)
+overflow_add-result : tie.Need-overflow_add-result
+overflow_add-result c = omega (arith, decimal_some c.before.before.args.n)
 
-same_length : tie.Need-same-length
-same_length c = search rules
+shape_of-out-then-n-lt10 : tie.Need-shape_of-out-then-n-lt10
+shape_of-out-then-n-lt10 c = search rules
 
-returns : tie.Need-returns
-returns c =
+returns-then-n-lt10 : tie.Need-returns-then-n-lt10
+returns-then-n-lt10 c =
     let args = c.before.before.args in
-    rw (decimal_low args.n c.if1.true)
+    rw (decimal_low args.n c.if-n-lt10.true)
     (appended_byte (48 + args.n) args.out.now args.at (omega (arith, decimal_some args.n)))
 
 -- two digits are the whole number
-both : (c : tie.Else1) →
+both : (c : tie.Else-n-lt10) →
     let n = c.before.before.args.n in
     decimal n ≡ (48 + n / 10 % 10) ∷ (48 + n % 10) ∷ []
-both c = decimal_two c.before.before.args.n c.if1.false c.before.before.requires.0
+both c = decimal_two c.before.before.args.n c.if-n-lt10.false c.before.before.requires.0
 
-put_two_requires : tie.Need-put-two-requires
-put_two_requires c κs = omega (arith, ap length (both c.before), c.before.before.before.requires.1)
+put_two-requires : tie.Need-put_two-requires
+put_two-requires c κs = omega (arith, ap length (both c.before), c.before.before.before.requires.1)
 
-same_length_2 : tie.Need-same-length-2
-same_length_2 c = search rules
+shape_of-out : tie.Need-shape_of-out
+shape_of-out c = search rules
 
-returns_2 : tie.Need-returns-2
-returns_2 c = appended_as (both c.before.before.before.before) c.before.before.put_two.ensures
+returns : tie.Need-returns
+returns c = appended_as (both c.before.before.before.before) c.before.before.put_two.ensures
 
-pub put-small-spec : {M : Type 1} → statement M
-put-small-spec =
+pub put_small_spec : {M : Type 1} → statement M
+put_small_spec =
     tie.close
-    (tie.spec add-out cast-out slice-write-out add-result same_length returns put_two_requires same_length_2 returns_2)
+    (tie.spec overflow_add-out overflow_cast-out bounds-out-at overflow_add-result shape_of-out-then-n-lt10 returns-then-n-lt10 put_two-requires shape_of-out returns)

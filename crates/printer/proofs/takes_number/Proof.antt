@@ -5,14 +5,14 @@ use mathlib.Core.Path.{sym, ◌∙◌}
 use Rattle.printer.proofs.takes_number.Statement.{statement}
 use Rattle.printer.proofs.takes_number.Tie as tie
 
-is-gap-requires : tie.Need-is-gap-requires
-is-gap-requires c κs = search rules
+is_gap-requires : tie.Need-is_gap-requires
+is_gap-requires c κs = search rules
+
+returns-then-not-is_gap : tie.Need-returns-then-not-is_gap
+returns-then-not-is_gap c = rw (sym c.before.is_gap.ensures ∙ not-true _ c.if-not-is_gap.true-raw)
 
 returns : tie.Need-returns
-returns c = rw (sym c.before.is_gap_lem.ensures ∙ not-true _ c.if1.true)
+returns c = rw (sym c.before.is_gap.ensures ∙ not-false _ c.if-not-is_gap.false-raw)
 
-returns_2 : tie.Need-returns-2
-returns_2 c = rw (sym c.before.is_gap_lem.ensures ∙ not-false _ c.if1.false)
-
-pub takes-number-spec : {M : Type 1} → statement M
-takes-number-spec = tie.close (tie.spec is-gap-requires returns returns_2)
+pub takes_number_spec : {M : Type 1} → statement M
+takes_number_spec = tie.close (tie.spec is_gap-requires returns-then-not-is_gap returns)
