@@ -1,4 +1,6 @@
 // The benchmark's sequences over the proved calls, exported to C. The same sequences stand in bench/ in C.
+#![tactic(auto)]
+
 ghost use Rattle.std.specs.Prelude.{◌≡◌, ◌*◌, ◌<◌, ◌≤◌, length};
 ghost use Rattle.definitions.specs.Sizes.{ids};
 ghost use Rattle.tables.specs.Tables.{tables};

@@ -1,5 +1,7 @@
 // The count sheets behind a script (paper 02, S-7): the script is carried out, its answers are dropped, and a line for every active
 // client, by rising id, tells its counts.
+#![tactic(auto)]
+
 ghost use Rattle.std.specs.Prelude.{◌≡◌, ◌+◌, ◌≤◌, length};
 ghost use Rattle.grammar.specs.CountLines.{line_of};
 ghost use Rattle.printer.specs.Printed.{line_room, LineWritten};

@@ -1,5 +1,7 @@
 // A whole script carried out, its answers dropped. What is told behind it, the figure of a forecast or the count sheets, goes by the core
 // and the counts that it leaves.
+#![tactic(auto)]
+
 ghost use Rattle.tables.specs.Tables.{tables};
 ghost use Rattle.carried.specs.CarriedOut.{CarriedOut};
 

@@ -1,7 +1,7 @@
 -- What billing gets for the chosen client is the same: whether it is active is not erased, and its counts are those of its calls, which
 -- are alike. Assumes nothing.
 use Prim.Native.Nat.{ℕ}
-use mathlib.Core.Path.{◌≡◌, refl, sym, ap, ap₂, ◌∙◌, fun_ext}
+use mathlib.Core.Path.{◌≡◌, refl, sym, ap, ◌∙◌, fun_ext}
 use mathlib.Core.List.{[]}
 use Rattle.definitions.specs.State.{Core, unopened, running}
 use Rattle.definitions.specs.Checks.{first_failed, active_checks}

@@ -14,25 +14,25 @@ use Rattle.definitions.specs.declared.Packet.{Packet}
 use Rattle.definitions.specs.declared.Outcome.{Outcome}
 use Rattle.definitions.specs.declared.Outcome.TheVariants.{Real, Dummy, Idle, None}
 use Rattle.definitions.specs.declared.Answer.{Answer}
-use Rattle.definitions.specs.declared.Answer.TheVariants.{Accepted, Refused, Slot}
+use Rattle.definitions.specs.declared.Answer.TheVariants.{Refused}
 use Rattle.definitions.specs.Event.{Event, Open, Join, Change, Leave, Load, Arrive, Tick}
 use Rattle.definitions.specs.Sizes.{indifferent_kind, count_span}
-use Rattle.definitions.specs.Client.{Kind, absent, indifferent, private, Client, is_active, is_indifferent, kind_of, same_kind, nobody, joining, changed, charged}
-use Rattle.definitions.specs.Stock.{Stock, bare, loaded, queued, spent}
+use Rattle.definitions.specs.Client.{Kind, absent, indifferent, private, Client, is_active, is_indifferent, kind_of, same_kind}
+use Rattle.definitions.specs.Stock.{Stock, bare, spent}
 use Rattle.definitions.specs.State.{Side, State, Core, unopened, running, fresh, updated, put, stocked, emptied}
 use Rattle.definitions.specs.Answers.{is_accepted}
 use Rattle.definitions.specs.Checks.{Result, Check, accepted, checked, unchanged, open_checks, term_checks, join_checks, active_checks, change_checks, leave_checks, load_checks, arrive_checks}
 use Rattle.definitions.specs.Calls.{on_open, on_join, side_after_change, on_change, on_leave, on_load, side_after_arrival, on_arrive}
-use Rattle.definitions.specs.Tick.{Rule, rule1, rule2, rule3, turn, without_packet, sent_from, sent, outcome_by, stocks_after, side_after, slotted, on_tick}
+use Rattle.definitions.specs.Tick.{Rule, rule1, rule2, rule3, turn, sent_from, sent, outcome_by, stocks_after, side_after, slotted, on_tick}
 use Rattle.definitions.specs.Core.{step}
-use Rattle.definitions.specs.History.{History, start, ◌then◌, Trace, client_of, stock_of, scheduler, after, answer_at, dealing_at, trace_of}
+use Rattle.definitions.specs.History.{History, start, ◌then◌, client_of, stock_of, scheduler, after, answer_at, dealing_at, trace_of}
 use Rattle.definitions.specs.Traces.{indifferent_by, indifferent_at, indifferent_since}
 use Rattle.definitions.specs.Stretch.{one_if}
 use Rattle.definitions.specs.Counts.{Count, count_accepted, count_sent, count14, count15, count_emptied, count_dummies, column, Tally, zeros, Entry, nothing, more, anew, entry_of_drop, keeps_type, entry_of_accepted, entry_of_refused, entry_of_slot, entry_of, entered, unsettled, tallied, gained, wrapped, wrapped_plus, counts_after, Whole, whole_new, whole_after}
 use Rattle.definitions.specs.Counted.{counts_behind, whole_behind, waiting_in, Settles, made_so, CountedAlone, DropsCounted, Counted}
 use Rattle.definitions.proofs.Laws.Tests.{T_true, true-false, eqb-cases, eqb_same, cond_both}
 use Rattle.definitions.proofs.Laws.Checked.{Passed, checked-cases}
-use Rattle.definitions.proofs.Laws.Clients.{put_same, put_other, put-cases}
+use Rattle.definitions.proofs.Laws.Clients.{put_same, put_other}
 use Rattle.definitions.proofs.Laws.Kinds.{kind_of_indifferent}
 use Rattle.definitions.proofs.Facts.{check_facts}
 use Rattle.definitions.proofs.Laws.Rules.{sent-cases}

@@ -2,7 +2,7 @@
 -- is refused with 14 in the one of fewer places. By induction over the history. Assumes nothing.
 use Prim.Native.Nat.{ℕ, ◌+◌}
 use native.Mathlib.Omega.{arith}
-use mathlib.Core.Path.{◌≡◌, refl, sym, ap, ap₂, ◌∙◌}
+use mathlib.Core.Path.{◌≡◌, refl, ap, ap₂, ◌∙◌}
 use mathlib.Core.Bool.{Bool, true, false, cond, ◌&&◌}
 use lib.Dec.{eqb, ltb}
 use lib.ListN.{length}
@@ -13,7 +13,7 @@ use Rattle.definitions.specs.Sizes.{ids, places, shortest, longest}
 use Rattle.definitions.specs.State.{State, Core, unopened, running}
 use Rattle.definitions.specs.Client.{is_active}
 use Rattle.definitions.specs.Answers.{number}
-use Rattle.definitions.specs.Checks.{Result, accepted, refused, checked, within, active_checks}
+use Rattle.definitions.specs.Checks.{Result, refused, checked, within, active_checks}
 use Rattle.definitions.specs.Core.{step}
 use Rattle.definitions.specs.Tick.{turn}
 use Rattle.definitions.specs.History.{History, start, ◌then◌, Dealing, ◌and◌, after, answer_at, dealing_at, trace_of, pick_of, draws_of, scheduler_by}

@@ -1,6 +1,7 @@
 // The types of the papers that code and definitions share: a packet, an outcome, an answer, and what a sheet tells of a slot. Their
 // meaning stands in specs/.
 // Their numbers, too, as the code has them; for the proofs they stand in specs/Sizes.antt, and where two disagree a proof fails.
+#![tactic(auto)]
 
 // The largest number of a call, and the largest handle.
 pub const NUMBER_LIMIT: u64 = 4294967295;

@@ -1,5 +1,7 @@
 // The weighted draw over a word of marks and the table of terms, whose rates stand first: a target below the sum of the rates,
 // and the first id, by rising id, at which the running sum exceeds it. Ids without a mark weigh nothing, and are not visited.
+#![tactic(auto)]
+
 ghost use Rattle.std.specs.Prelude.{◌≡◌, not, ◌&&◌, leb, ltb, ◌%◌};
 ghost use Rattle.definitions.specs.Sizes.{ids, throws};
 ghost use Rattle.definitions.specs.Sample.{even_span, sample};

@@ -1,5 +1,7 @@
 // What no round of `bench` has, exported to C: opens, and leaves and changes of kind with packets waiting. It stands in a crate
 // of its own, since the compiler inlines a tick into the rounds of `bench` only where nothing else there calls them.
+#![tactic(auto)]
+
 ghost use Rattle.std.specs.Prelude.{◌<◌, ◌≤◌};
 ghost use Rattle.tables.specs.Tables.{tables};
 ghost use Rattle.tables.specs.Invariant.{Valid};

@@ -1,5 +1,7 @@
 // Reads a text of demands from standard input and writes the lines of their rates (paper 02, S-8). What is written is decided in
 // `fairsheet`.
+#![tactic(auto)]
+
 ghost use Rattle.std.specs.Prelude.{◌≡◌, leb};
 ghost use Rattle.grammar.specs.FairSheet.{fair_printout};
 ghost use Rattle.streams.specs.Writing.{HandedOn};

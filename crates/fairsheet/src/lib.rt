@@ -1,5 +1,7 @@
 // What is printed for a text of demands (paper 02, S-8): the lines of its rates, or the one that refuses it. Shape is judged of
 // the whole text before size, so a number that is too large is remembered until the last line is read.
+#![tactic(auto)]
+
 ghost use Rattle.std.specs.Prelude.{◌≡◌, ◌≤◌, length, set, drop};
 ghost use Rattle.definitions.specs.Sizes.{ids};
 ghost use Rattle.grammar.specs.Lines.{lines};

@@ -1,5 +1,7 @@
 // The forecast behind a script (paper 02, S-14, "a figure for leases"): the script is carried out, its answers are dropped, and
 // one line tells of how many picks the private side is then sure in the next ticks.
+#![tactic(auto)]
+
 ghost use Rattle.std.specs.Prelude.{List, ℕ};
 ghost use Rattle.grammar.specs.Forecast.{forecast};
 ghost use Rattle.printer.specs.Printed.{LineWritten};

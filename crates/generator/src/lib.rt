@@ -1,5 +1,7 @@
 // The generator of paper 01: xorshift32, made from a seed and stepped.
 // A value of the type is the number last given, which is also the number kept.
+#![tactic(auto)]
+
 ghost use Rattle.std.specs.Prelude.{◌≡◌};
 ghost use Rattle.definitions.specs.Generator.{stepped};
 

@@ -1,5 +1,7 @@
 // Makes long runs in which one client offers packets until it is refused, and prints how many of its offerings gave it exactly
 // what it bought. The first argument is the seed, the second how many blocks.
+#![tactic(auto)]
+
 ghost use Rattle.std.specs.Prelude.{◌≡◌, ℕ, ◌*◌, List};
 ghost use Rattle.tables.specs.Tables.{tables};
 ghost use Rattle.tables.specs.Meaning.{core_of};

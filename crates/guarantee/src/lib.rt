@@ -1,5 +1,7 @@
 // What the private side is sure of (paper 02, S-14): of how many picks in the next ticks, whatever the indifferent clients offer.
 // They may take a slot for each packet that waits and for each that they buy meanwhile, and the rest is left to the private side.
+#![tactic(auto)]
+
 ghost use Rattle.std.specs.Prelude.{◌≡◌, List, ℕ, ◌^◌, ◌<◌};
 ghost use Rattle.definitions.specs.Sizes.{ids};
 ghost use Rattle.definitions.specs.Draw.{sum_below};

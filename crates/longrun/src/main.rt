@@ -1,5 +1,7 @@
 // Makes long runs of calls and prints the check of their answers: the first argument is the seed, the second how many blocks.
 // What is called and what is checked is decided in `runs`.
+#![tactic(auto)]
+
 ghost use Rattle.std.specs.Prelude.{◌≡◌, ◌*◌};
 ghost use Rattle.runs.specs.LongRun.{block, after};
 

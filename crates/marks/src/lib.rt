@@ -1,6 +1,8 @@
 // A word of 64 marks, one bit for each id: which ids have something. The marks say at once whether
 // there is any, and are gone through by rising id: the first one, then the rest without it.
 // A shift by as many bits as there are ids, or more, is refused, so each shift is under a test.
+#![tactic(auto)]
+
 ghost use Rattle.std.specs.Prelude.{◌≡◌, not, ◌&&◌, ◌||◌, ℕ, ◌<◌, eqb, ltb};
 ghost use Rattle.definitions.specs.Sizes.{ids};
 ghost use Rattle.definitions.specs.Draw.{first_from};

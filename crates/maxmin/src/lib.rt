@@ -1,6 +1,8 @@
 // Fair rates when all want more (paper 02, S-8): max-min shares. Demands are cut to the largest level at which they fit the
 // threshold, and what is left goes one share each, by rising id, to those above the level. The level is found by halving, so no
 // cost grows with the threshold.
+#![tactic(auto)]
+
 ghost use Rattle.std.specs.Prelude.{◌≡◌, ◌≤◌, min, length};
 ghost use Rattle.std.proofs.lemmas.List.Edits.{sets};
 ghost use Rattle.definitions.specs.Sizes.{ids, shares};

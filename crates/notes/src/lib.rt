@@ -1,5 +1,7 @@
 // What the sheets tell of a tick (paper 02, S-5): the operator all of it, and a private tenant its own slots, and of each other whether
 // it went to an indifferent client or to another private one. A tick gives what these functions take.
+#![tactic(auto)]
+
 ghost use Rattle.std.specs.Prelude.{◌≡◌};
 ghost use Rattle.definitions.specs.Notes.{note_of, holder, tenant_checks, tenant_seen};
 ghost use Rattle.tables.specs.Tables.{Tables};

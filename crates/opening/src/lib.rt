@@ -1,4 +1,6 @@
 // Where a core begins: unopened, and opened with empty tables.
+#![tactic(auto)]
+
 ghost use Rattle.std.specs.Prelude.{◌≡◌};
 ghost use Rattle.definitions.specs.Event.{Open};
 ghost use Rattle.definitions.specs.State.{unopened};

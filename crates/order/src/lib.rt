@@ -1,5 +1,7 @@
 // The order in which the waiting packets of indifferent clients were accepted: a circular doubly linked list over all places
 // with one sentinel, in one table that is lent. Every operation costs the same however many packets wait, and writes no packet.
+#![tactic(auto)]
+
 ghost use Rattle.std.specs.Prelude.{◌≡◌, List, [], ◌∷◌, ◌++◌, ℕ, ◌≤◌, ◌<◌};
 ghost use Rattle.order.specs.Order.{sentinel, Sound, Absent, Ordered, front_of, joined};
 

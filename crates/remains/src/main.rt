@@ -1,6 +1,8 @@
 // Makes long runs on tables with remains of other numbers, and prints the check of their answers as `longrun` does. The
 // arguments are the seed, how many blocks, the number that is written wherever no packet waits, and the seed of an earlier
 // history on the same core, or 0 for none.
+#![tactic(auto)]
+
 ghost use Rattle.std.specs.Prelude.{◌≡◌, ◌*◌, ◌%◌, ◌<◌};
 ghost use Rattle.order.specs.Order.{sentinel};
 ghost use Rattle.tables.specs.Tables.{tables};

@@ -1,5 +1,7 @@
 // A script in pieces: from a place on, each line is parsed and carried out. For the caller one line is printed in answer to it; for the
 // operator, or a private tenant, only ticks print one.
+#![tactic(auto)]
+
 ghost use Rattle.std.specs.Prelude.{◌≡◌, ◌&&◌, not, leb, length, take, ◌+◌, ◌≤◌, ◌<◌};
 ghost use Rattle.definitions.specs.Sameness.{is_tick};
 ghost use Rattle.grammar.specs.Calls.{event_of};

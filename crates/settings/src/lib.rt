@@ -1,5 +1,7 @@
 // Join, change and leave. `empty` takes away what an id has to send, and `place_client` gives it the terms of a new client, a
 // leave those of nobody: change and leave are the one and then the other. Only a change that keeps the kind keeps the client.
+#![tactic(auto)]
+
 ghost use Rattle.std.specs.Prelude.{◌≡◌, true, List, ℕ, ◌+◌, ◌-◌, ◌^◌, ◌≤◌, ◌<◌, min};
 ghost use Rattle.definitions.specs.Event.{Join, Change, Leave};
 ghost use Rattle.definitions.specs.Sizes.{ids, places, burst_limit};

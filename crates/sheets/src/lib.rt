@@ -1,4 +1,6 @@
 // The count sheet that billing gets for an id (paper 02, S-7).
+#![tactic(auto)]
+
 ghost use Rattle.std.specs.Prelude.{◌≡◌};
 ghost use Rattle.definitions.specs.Counts.{count_sheet};
 ghost use Rattle.tables.specs.Tables.{Tables};

@@ -1,4 +1,6 @@
 // One slot: whose it is, what that client sends, and the refill of every bucket (paper 01, "Tick is one slot").
+#![tactic(auto)]
+
 ghost use Rattle.std.specs.Prelude.{◌≡◌, cond, List, ℕ, ◌-◌, ◌≤◌, ◌<◌};
 ghost use Rattle.definitions.specs.Event.{Tick};
 ghost use Rattle.definitions.specs.Sizes.{ids, places, longest};

@@ -1,5 +1,7 @@
 // Reads a script from standard input and writes its printout, the operator's sheet or a tenant's, or the forecast or the count sheets
 // behind it. What is written is decided in `script`, in `forecast` and in `bill`.
+#![tactic(auto)]
+
 ghost use Rattle.std.specs.Prelude.{◌≡◌, length};
 ghost use Rattle.grammar.specs.Printout.{printout_for};
 ghost use Rattle.grammar.specs.Forecast.{forecast_behind};

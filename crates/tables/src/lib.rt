@@ -1,4 +1,6 @@
 // The tables of the core and what goes beside them by value: the layer under the calls.
+#![tactic(auto)]
+
 ghost use Rattle.std.specs.Prelude.{◌≡◌, [], ◌<◌, ◌^◌};
 ghost use Rattle.definitions.specs.Client.{is_active};
 ghost use Rattle.definitions.specs.Checks.{active_checks};

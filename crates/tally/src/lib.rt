@@ -1,4 +1,6 @@
 // What the programs of long runs share: the line that they print after each block.
+#![tactic(auto)]
+
 ghost use Rattle.std.specs.Prelude.{◌≡◌, ◌*◌};
 ghost use Rattle.runs.specs.LongRun.{block};
 

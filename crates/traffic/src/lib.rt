@@ -1,4 +1,6 @@
 // What comes in for a client: dummies for a private pool, and packets.
+#![tactic(auto)]
+
 ghost use Rattle.std.specs.Prelude.{◌≡◌, List, set, ℕ, ◌+◌, ◌-◌, ◌*◌, ◌%◌, ◌≤◌, ◌<◌};
 ghost use Rattle.definitions.specs.Event.{Load, Arrive};
 ghost use Rattle.definitions.specs.Sizes.{ids, places, shares, longest};

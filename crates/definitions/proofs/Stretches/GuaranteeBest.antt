@@ -1,7 +1,7 @@
 -- For every n half of the slots are sure and no more are got, if a client at half the shares takes each token as it comes. Two
 -- ticks on, the client is where it was: the first of them is a pick, since nothing waits, and brings a token; the second sends
 -- the packet that took it. Assumes nothing.
-use Prim.Native.Nat.{ℕ, zero, suc, ◌+◌, ◌*◌, ◌-◌, ◌/◌, ◌≤◌, ◌<◌}
+use Prim.Native.Nat.{ℕ, zero, suc, ◌+◌, ◌*◌, ◌/◌, ◌≤◌, ◌<◌}
 use mathlib.Core.Path.{◌≡◌, refl, sym, ap, subst, ◌∙◌}
 use mathlib.Core.Bool.{Bool, true, false, cond, not, ◌&&◌}
 use native.Mathlib.Omega.{arith}

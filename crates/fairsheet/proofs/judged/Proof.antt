@@ -3,11 +3,11 @@ use borrow.Author.Tests.{eq-eqb, ne_eqb}
 use Rattle.fairsheet.proofs.judged.Statement.{statement}
 use Rattle.fairsheet.proofs.judged.Tie as tie
 
-returns : tie.Need-returns
-returns c = rw (eq-eqb _ _ c.if1.true)
+returns-then-first-eq-FITS : tie.Need-returns-then-first-eq-FITS
+returns-then-first-eq-FITS c = rw (eq-eqb _ _ c.if-first-eq-FITS.true)
 
-returns_2 : tie.Need-returns-2
-returns_2 c = rw (ne_eqb _ _ c.if1.false)
+returns-else-first-eq-FITS : tie.Need-returns-else-first-eq-FITS
+returns-else-first-eq-FITS c = rw (ne_eqb _ _ c.if-first-eq-FITS.false)
 
-pub judged-spec : {M : Type 1} → statement M
-judged-spec = tie.close (tie.spec returns returns_2)
+pub judged_spec : {M : Type 1} → statement M
+judged_spec = tie.close (tie.spec returns-then-first-eq-FITS returns-else-first-eq-FITS)

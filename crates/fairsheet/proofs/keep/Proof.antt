@@ -5,20 +5,20 @@ use lib.Seq.{set_out}
 use Rattle.fairsheet.proofs.keep.Statement.{statement}
 use Rattle.fairsheet.proofs.keep.Tie as tie
 
-mul-column : tie.Need-overflow-mul-column
-mul-column c = search rules
+offset_bounds-column-row : tie.Need-offset_bounds-column-row
+offset_bounds-column-row c = search rules
 
-slice-write-column : tie.Need-slice-write-column
-slice-write-column c = search rules
+bounds-column-row : tie.Need-bounds-column-row
+bounds-column-row c = search rules
 
-same_length : tie.Need-same-length
-same_length c = search rules
+shape_of-column : tie.Need-shape_of-column
+shape_of-column c = search rules
 
-returns : tie.Need-returns
-returns c = search rules
+returns-then-row-column : tie.Need-returns-then-row-column
+returns-then-row-column c = search rules
 
-returns_2 : tie.Need-returns-2
-returns_2 c = sym (set_out _ _ _ c.if1.false)
+returns-else-row-column : tie.Need-returns-else-row-column
+returns-else-row-column c = sym (set_out _ _ _ c.if-row-column.false)
 
 pub keep_spec : {M : Type 1} → statement M
-keep_spec = tie.close (tie.spec mul-column slice-write-column same_length returns returns_2)
+keep_spec = tie.close (tie.spec offset_bounds-column-row bounds-column-row shape_of-column returns-then-row-column returns-else-row-column)

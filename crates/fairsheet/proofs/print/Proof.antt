@@ -16,126 +16,126 @@ use Rattle.fairsheet.proofs.print.Statement.{statement}
 use Rattle.fairsheet.proofs.print.Tie as tie
 
 -- where the test has passed there is room for every line
-room : (c : tie.Else1) → sheet_room ≤ length c.before.before.before.args.out.now
+room : (c : tie.Else-out-lt-SHEET_ROOM) → sheet_room ≤ length c.before.before.before.args.out.now
 unfolding ids
 room c = omega arith
 
-returns : tie.Need-returns
+returns-then-out-lt-SHEET_ROOM : tie.Need-returns-then-out-lt-SHEET_ROOM
 unfolding ids
-returns c = sheet-bare _ _ (omega arith)
+returns-then-out-lt-SHEET_ROOM c = sheet-bare _ _ (omega arith)
 
-print-refused-requires : tie.Need-print-refused-requires
-print-refused-requires c κs = search rules
+print_refused-requires : tie.Need-print_refused-requires
+print_refused-requires c κs = search rules
 
-same_length : tie.Need-same-length
-same_length c = search rules
+shape_of-out-then-text-gt-TEXT_LIMIT : tie.Need-shape_of-out-then-text-gt-TEXT_LIMIT
+shape_of-out-then-text-gt-TEXT_LIMIT c = search rules
 
-returns_2 : tie.Need-returns-2
+returns-then-text-gt-TEXT_LIMIT : tie.Need-returns-then-text-gt-TEXT_LIMIT
 unfolding text_limit
-returns_2 c =
+returns-then-text-gt-TEXT_LIMIT c =
     let call = c.before.before in
     let test = call.before.before in
     let space = room test.before in
-    told-long _ _ space (omega (arith, test.if2.true)) (line_written space call.print-refused.ensures)
+    told-long _ _ space (omega (arith, test.if-text-gt-TEXT_LIMIT.true)) (line_written space call.print_refused.ensures)
 
-slice-aggregate-read : tie.Need-slice-aggregate-read
-slice-aggregate-read c = search rules
+slice_bounds-read-end : tie.Need-slice_bounds-read-end
+slice_bounds-read-end c = search rules
 
-slice-aggregate-read-2 : tie.Need-slice-aggregate-read-2
-slice-aggregate-read-2 c = search rules
+slice_bounds-read-end-2 : tie.Need-slice_bounds-read-end-2
+slice_bounds-read-end-2 c = search rules
 
-read-requires : tie.Need-read-requires
-read-requires c κs = search rules
+read-reading-requires : tie.Need-read-reading-requires
+read-reading-requires c κs = search rules
 
-print-refused-requires-2 : tie.Need-print-refused-requires-2
-print-refused-requires-2 c κs = search rules
+print_refused-requires-then-reading-ne-FITS : tie.Need-print_refused-requires-then-reading-ne-FITS
+print_refused-requires-then-reading-ne-FITS c κs = search rules
 
-same_length_2 : tie.Need-same-length-2
-same_length_2 c = search rules
+shape_of-out-then-reading-ne-FITS : tie.Need-shape_of-out-then-reading-ne-FITS
+shape_of-out-then-reading-ne-FITS c = search rules
 
-returns-3 : tie.Need-returns-3
+returns-then-reading-ne-FITS : tie.Need-returns-then-reading-ne-FITS
 unfolding text_limit
-returns-3 c =
+returns-then-reading-ne-FITS c =
     let call = c.before.before in
     let test = call.before.before in
     let given = test.before.before.before.before in
     let short = given.before.before.before in
     let space = room short.before in
-    told_read _ _ space (omega (arith, short.if2.false))
-    (appended_as (sym (read_refused _ given.read.ensures test.if3.true))
-    (line_written space call.print-refused2.ensures))
+    told_read _ _ space (omega (arith, short.if-text-gt-TEXT_LIMIT.false))
+    (appended_as (sym (read_refused _ given.read-reading.ensures test.if-reading-ne-FITS.true))
+    (line_written space call.print_refused-then-reading-ne-FITS.ensures))
 
-print-refused-requires-3 : tie.Need-print-refused-requires-3
-print-refused-requires-3 c κs = search rules
+print_refused-requires-then-count-gt-ROWS : tie.Need-print_refused-requires-then-count-gt-ROWS
+print_refused-requires-then-count-gt-ROWS c κs = search rules
 
-same-length-3 : tie.Need-same-length-3
-same-length-3 c = search rules
+shape_of-out-then-count-gt-ROWS : tie.Need-shape_of-out-then-count-gt-ROWS
+shape_of-out-then-count-gt-ROWS c = search rules
 
-returns-4 : tie.Need-returns-4
+returns-then-count-gt-ROWS : tie.Need-returns-then-count-gt-ROWS
 unfolding text_limit ids
-returns-4 c =
+returns-then-count-gt-ROWS c =
     let call = c.before.before in
     let many = call.before.before in
     let test = many.before in
     let given = test.before.before.before.before in
     let short = given.before.before.before in
     let space = room short.before in
-    told_read _ _ space (omega (arith, short.if2.false))
-    (appended_as (sym (rows_many (read_rows _ given.read.ensures test.if3.false) (omega (arith, many.if4.true))))
-    (line_written space call.print-refused3.ensures))
+    told_read _ _ space (omega (arith, short.if-text-gt-TEXT_LIMIT.false))
+    (appended_as (sym (rows_many (read_rows _ given.read-reading.ensures test.if-reading-ne-FITS.false) (omega (arith, many.if-count-gt-ROWS.true))))
+    (line_written space call.print_refused-then-count-gt-ROWS.ensures))
 
-array-share-prefix-listed : tie.Need-array-share-prefix-listed
-array-share-prefix-listed c = search rules
+slice_bounds-listed-end : tie.Need-slice_bounds-listed-end
+slice_bounds-listed-end c = search rules
 
-slice-aggregate-print-rates : tie.Need-slice-aggregate-print-rates
-slice-aggregate-print-rates c = sym (length-take-le _ _ (search rules))
+slice_bounds-print_rates-end : tie.Need-slice_bounds-print_rates-end
+slice_bounds-print_rates-end c = sym (length-take-le _ _ (search rules))
 
-array-share-prefix-demands : tie.Need-array-share-prefix-demands
-array-share-prefix-demands c = search rules
+slice_bounds-demands-end : tie.Need-slice_bounds-demands-end
+slice_bounds-demands-end c = search rules
 
-slice-aggregate-print-rates-2 : tie.Need-slice-aggregate-print-rates-2
-slice-aggregate-print-rates-2 c = sym (length-take-le _ _ (search rules))
+slice_bounds-print_rates-end-2 : tie.Need-slice_bounds-print_rates-end-2
+slice_bounds-print_rates-end-2 c = sym (length-take-le _ _ (search rules))
 
-print-rates-requires : tie.Need-print-rates-requires
-print-rates-requires c κs =
+print_rates-requires : tie.Need-print_rates-requires
+print_rates-requires c κs =
     room c.before.before.before.before.before.before.before.before.before.before.before.before
 
-same-length-4 : tie.Need-same-length-4
-same-length-4 c = search rules
+shape_of-out : tie.Need-shape_of-out
+shape_of-out c = search rules
 
-returns-5 : tie.Need-returns-5
+returns : tie.Need-returns
 unfolding text_limit
-returns-5 c =
+returns c =
     let call = c.before.before in
     let few = call.before.before.before.before in
     let test = few.before in
     let given = test.before.before.before.before in
     let short = given.before.before.before in
-    told_read _ _ (room short.before) (omega (arith, short.if2.false))
-    (appended_as (sym (rows_few (read_rows _ given.read.ensures test.if3.false) (search rules) (search rules)))
-    call.print-rates.ensures)
+    told_read _ _ (room short.before) (omega (arith, short.if-text-gt-TEXT_LIMIT.false))
+    (appended_as (sym (rows_few (read_rows _ given.read-reading.ensures test.if-reading-ne-FITS.false) (search rules) (search rules)))
+    call.print_rates.ensures)
 
-pub print-spec : {M : Type 1} → statement M
-print-spec =
+pub print_spec : {M : Type 1} → statement M
+print_spec =
     tie.close
     (tie.spec
-    returns
-    print-refused-requires
-    same_length
-    returns_2
-    slice-aggregate-read
-    slice-aggregate-read-2
-    read-requires
-    print-refused-requires-2
-    same_length_2
-    returns-3
-    print-refused-requires-3
-    same-length-3
-    returns-4
-    array-share-prefix-listed
-    slice-aggregate-print-rates
-    array-share-prefix-demands
-    slice-aggregate-print-rates-2
-    print-rates-requires
-    same-length-4
-    returns-5)
+    returns-then-out-lt-SHEET_ROOM
+    print_refused-requires
+    shape_of-out-then-text-gt-TEXT_LIMIT
+    returns-then-text-gt-TEXT_LIMIT
+    slice_bounds-read-end
+    slice_bounds-read-end-2
+    read-reading-requires
+    print_refused-requires-then-reading-ne-FITS
+    shape_of-out-then-reading-ne-FITS
+    returns-then-reading-ne-FITS
+    print_refused-requires-then-count-gt-ROWS
+    shape_of-out-then-count-gt-ROWS
+    returns-then-count-gt-ROWS
+    slice_bounds-listed-end
+    slice_bounds-print_rates-end
+    slice_bounds-demands-end
+    slice_bounds-print_rates-end-2
+    print_rates-requires
+    shape_of-out
+    returns)

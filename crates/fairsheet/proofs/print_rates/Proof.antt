@@ -12,68 +12,68 @@ use Rattle.fairsheet.proofs.SheetTold.{line_written}
 use Rattle.fairsheet.proofs.print_rates.Statement.{statement}
 use Rattle.fairsheet.proofs.print_rates.Tie as tie
 
-slice-aggregate-rates : tie.Need-slice-aggregate-rates
-slice-aggregate-rates c = search rules
+slice_bounds-rates-end : tie.Need-slice_bounds-rates-end
+slice_bounds-rates-end c = search rules
 
-rates-requires : tie.Need-rates-requires
-rates-requires c κs = search rules
+rates-answer-requires : tie.Need-rates-answer-requires
+rates-answer-requires c κs = search rules
 
-enum_told : tie.Need-enum-told
-enum_told c = search rules
+enum_told-1 : tie.Need-enum_told-1
+enum_told-1 c = search rules
 
-print-refused-requires : tie.Need-print-refused-requires
-print-refused-requires c κs = search rules
+print_refused-requires : tie.Need-print_refused-requires
+print_refused-requires c κs = search rules
 
-same_length : tie.Need-same-length
-same_length c = search rules
+shape_of-out-in_default : tie.Need-shape_of-out-in_default
+shape_of-out-in_default c = search rules
 
-returns : tie.Need-returns
+returns-in_default : tie.Need-returns-in_default
 unfolding ids
-returns c =
+returns-in_default c =
     let call = c.before.before in
     let match = call.before.before in
     let given = match.before.before in
     let start = given.before.before.before.before.before in
     appended_as
-    (sym (shared_refused _ _ _ refl given.rates2.ensures
-    (λ e. ⊎_elim (λ h. omega (arith, rw e at h)) (λ h. omega (arith, rw e at h)) match.match.keys2)))
-    (line_written start.requires call.print-refused.ensures)
+    (sym (shared_refused _ _ _ refl given.rates-answer.ensures
+    (λ e. ⊎_elim (λ h. omega (arith, rw e at h)) (λ h. omega (arith, rw e at h)) match.in-Accepted.keys2)))
+    (line_written start.requires call.print_refused.ensures)
 
-slice-aggregate-put-rates : tie.Need-slice-aggregate-put-rates
-slice-aggregate-put-rates c = search rules
+slice_bounds-put_rates-end : tie.Need-slice_bounds-put_rates-end
+slice_bounds-put_rates-end c = search rules
 
-put-rates-requires : tie.Need-put-rates-requires
+put_rates-requires : tie.Need-put_rates-requires
 unfolding ids
-put-rates-requires c κs =
+put_rates-requires c κs =
     let told = c.before.before in
     let given = told.before.before.before in
-    let yes = shared_accepted _ _ _ refl given.rates2.ensures told.enum_told.given.1 in
+    let yes = shared_accepted _ _ _ refl given.rates-answer.ensures told.enum_told.given.1 in
     let few = accepted_few _ _ _ yes in
     let same = accepted-listed _ _ _ yes in
-    (omega (arith, few, same), omega (arith, few, same, given.rates2.auto.1.1.1.0), search rules)
+    (omega (arith, few, same), omega (arith, few, same, given.rates-answer.auto.1.1.1.0), search rules)
 
-same_length_2 : tie.Need-same-length-2
-same_length_2 c = search rules
+shape_of-out : tie.Need-shape_of-out
+shape_of-out c = search rules
 
-returns_2 : tie.Need-returns-2
+returns : tie.Need-returns
 unfolding ids
-returns_2 c =
+returns c =
     let call = c.before.before in
     let told = call.before.before.before in
     let given = told.before.before.before in
-    appended_as (sym (shared_lines _ _ _ refl given.rates2.ensures told.enum_told.given.1)) call.put-rates.ensures
+    appended_as (sym (shared_lines _ _ _ refl given.rates-answer.ensures told.enum_told.given.1)) call.put_rates.ensures
 
-pub print-rates-spec : {M : Type 1} → statement M
-print-rates-spec =
+pub print_rates_spec : {M : Type 1} → statement M
+print_rates_spec =
     tie.close
     (tie.spec
-    slice-aggregate-rates
-    rates-requires
-    enum_told
-    print-refused-requires
-    same_length
-    returns
-    slice-aggregate-put-rates
-    put-rates-requires
-    same_length_2
-    returns_2)
+    slice_bounds-rates-end
+    rates-answer-requires
+    enum_told-1
+    print_refused-requires
+    shape_of-out-in_default
+    returns-in_default
+    slice_bounds-put_rates-end
+    put_rates-requires
+    shape_of-out
+    returns)

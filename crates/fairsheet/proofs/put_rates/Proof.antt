@@ -8,69 +8,69 @@ use Rattle.fairsheet.proofs.RateRoom.{LinesPut, put-none, put_more, put_done}
 use Rattle.fairsheet.proofs.put_rates.Statement.{statement}
 use Rattle.fairsheet.proofs.put_rates.Tie as tie
 
-abbrev invariant-loop : tie.invariant-loop
-invariant-loop listed rates out₀ at₀ i₀ out at i = LinesPut listed rates out₀ out at i
+abbrev invariant-loop-i : tie.invariant-loop-i
+invariant-loop-i listed rates out₀ at₀ i₀ out at i = LinesPut listed rates out₀ out at i
 
-abbrev decreases-loop : tie.decreases-loop
-decreases-loop listed rates out₀ at₀ i₀ out at i = length listed - i
+abbrev decreases-loop-i : tie.decreases-loop-i
+decreases-loop-i listed rates out₀ at₀ i₀ out at i = length listed - i
 
-loop-holds : tie.Need-loop-init invariant-loop decreases-loop
-loop-holds c = put-none _ _ _
+loop-i-init : tie.Need-loop-i-init invariant-loop-i decreases-loop-i
+loop-i-init c = put-none _ _ _
 
-mul-print-rate : tie.Need-overflow-mul-print-rate invariant-loop decreases-loop
-mul-print-rate c = search rules
+offset_bounds-listed-i : tie.Need-offset_bounds-listed-i invariant-loop-i decreases-loop-i
+offset_bounds-listed-i c = search rules
 
-shared-slice-read-print-rate : tie.Need-shared-slice-read-print-rate invariant-loop decreases-loop
-shared-slice-read-print-rate c = search rules
+bounds-listed-i : tie.Need-bounds-listed-i invariant-loop-i decreases-loop-i
+bounds-listed-i c = search rules
 
-mul-print-rate-2 : tie.Need-overflow-mul-print-rate-2 invariant-loop decreases-loop
-mul-print-rate-2 c = search rules
+offset_bounds-rates-i : tie.Need-offset_bounds-rates-i invariant-loop-i decreases-loop-i
+offset_bounds-rates-i c = search rules
 
-shared-slice-read-print-rate-2 : tie.Need-shared-slice-read-print-rate-2 invariant-loop decreases-loop
-shared-slice-read-print-rate-2 c = search rules
+bounds-rates-i : tie.Need-bounds-rates-i invariant-loop-i decreases-loop-i
+bounds-rates-i c = search rules
 
-print-rate-requires : tie.Need-print-rate-requires invariant-loop decreases-loop
-print-rate-requires c κs = search rules
+print_rate-at-requires : tie.Need-print_rate-at-requires invariant-loop-i decreases-loop-i
+print_rate-at-requires c κs = search rules
 
-add-i : tie.Need-overflow-add-i invariant-loop decreases-loop
-add-i c = search rules
+overflow_add-i : tie.Need-overflow_add-i invariant-loop-i decreases-loop-i
+overflow_add-i c = search rules
 
-loop-less : tie.Need-loop-smaller invariant-loop decreases-loop
-loop-less c = omega arith
+loop-i-smaller : tie.Need-loop-i-smaller invariant-loop-i decreases-loop-i
+loop-i-smaller c = omega arith
 
-loop-again : tie.Need-loop-preserved invariant-loop decreases-loop
-loop-again c =
+loop-i-preserved : tie.Need-loop-i-preserved invariant-loop-i decreases-loop-i
+loop-i-preserved c =
     let call = c.before.before in
     let known = call.before in
     let inside = known.before.before.before in
     let pre = inside.before.before.before.before.before.requires in
-    let i = inside.before.loop.i in
-    put_more inside.before.loop.invariant pre.0 pre.2 inside.loop-test.true (omega arith)
-    (omega (arith, known.before.shared-slice-known3.given i)) (omega (arith, known.shared-slice-known4.given i))
-    call.print-rate.ensures
+    let i = inside.before.loop-i.i in
+    put_more inside.before.loop-i.invariant pre.0 pre.2 inside.loop-i-test.true (omega arith)
+    (omega (arith, known.before.shared_slice_known-in-loop-i-1.given i)) (omega (arith, known.shared_slice_known-in-loop-i-2-1.given i))
+    call.print_rate-at.ensures
 
-same_length : tie.Need-same-length invariant-loop decreases-loop
-same_length c = c.before.loop.invariant.same
+shape_of-out : tie.Need-shape_of-out invariant-loop-i decreases-loop-i
+shape_of-out c = c.before.loop-i.invariant.same
 
-returns : tie.Need-returns invariant-loop decreases-loop
+returns : tie.Need-returns invariant-loop-i decreases-loop-i
 returns c =
     let pre = c.before.before.before.before.before.requires in
-    put_done c.before.loop.invariant pre.0 pre.2 c.loop-test.false
+    put_done c.before.loop-i.invariant pre.0 pre.2 c.loop-i-test.false
 
-pub put-rates-spec : {M : Type 1} → statement M
-put-rates-spec =
+pub put_rates_spec : {M : Type 1} → statement M
+put_rates_spec =
     tie.close
     (tie.spec
-    invariant-loop
-    decreases-loop
-    loop-holds
-    mul-print-rate
-    shared-slice-read-print-rate
-    mul-print-rate-2
-    shared-slice-read-print-rate-2
-    print-rate-requires
-    add-i
-    loop-less
-    loop-again
-    same_length
+    invariant-loop-i
+    decreases-loop-i
+    loop-i-init
+    offset_bounds-listed-i
+    bounds-listed-i
+    offset_bounds-rates-i
+    bounds-rates-i
+    print_rate-at-requires
+    overflow_add-i
+    loop-i-smaller
+    loop-i-preserved
+    shape_of-out
     returns)

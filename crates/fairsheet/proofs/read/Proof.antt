@@ -8,46 +8,46 @@ use Rattle.fairsheet.proofs.SheetsRead.{sheet_unformed, sheet_read}
 use Rattle.fairsheet.proofs.read.Statement.{statement}
 use Rattle.fairsheet.proofs.read.Tie as tie
 
-line-at-requires : tie.Need-line-at-requires
-line-at-requires c κs = search rules
+line_at-span-requires : tie.Need-line_at-span-requires
+line_at-span-requires c κs = search rules
 
-slice-aggregate-threshold : tie.Need-slice-aggregate-threshold
-slice-aggregate-threshold c = sym (length-take-le _ _ (span_within _ _ _ c.before.line_at.ensures (omega arith)))
+slice_bounds-threshold-end : tie.Need-slice_bounds-threshold-end
+slice_bounds-threshold-end c = sym (length-take-le _ _ (span_within _ _ _ c.before.line_at-span.ensures (omega arith)))
 
-threshold-requires : tie.Need-threshold-requires
-threshold-requires c κs = search rules
+threshold-first-requires : tie.Need-threshold-first-requires
+threshold-first-requires c κs = search rules
+
+returns-then-first-eq-NO_FORM : tie.Need-returns-then-first-eq-NO_FORM
+returns-then-first-eq-NO_FORM c =
+    let read = c.before.before in
+    sheet_unformed _ _ read.before.before.line_at-span.ensures _ read.threshold-first.ensures c.if-first-eq-NO_FORM.true
+
+read_demands-requires : tie.Need-read_demands-requires
+read_demands-requires c κs = search rules
+
+shape_of-listed : tie.Need-shape_of-listed
+shape_of-listed c = search rules
+
+shape_of-demands : tie.Need-shape_of-demands
+shape_of-demands c = search rules
 
 returns : tie.Need-returns
 returns c =
-    let read = c.before.before in
-    sheet_unformed _ _ read.before.before.line_at.ensures _ read.threshold.ensures c.if1.true
-
-read-demands-requires : tie.Need-read-demands-requires
-read-demands-requires c κs = search rules
-
-same_length : tie.Need-same-length
-same_length c = search rules
-
-same_length_2 : tie.Need-same-length-2
-same_length_2 c = search rules
-
-returns_2 : tie.Need-returns-2
-returns_2 c =
     let call = c.before.before.before.before in
     let test = call.before.before.before in
     let read = test.before.before in
-    sheet_read _ _ read.before.before.line_at.ensures _ read.threshold.ensures test.if1.false
-    call.read-demands.ensures
+    sheet_read _ _ read.before.before.line_at-span.ensures _ read.threshold-first.ensures test.if-first-eq-NO_FORM.false
+    call.read_demands.ensures
 
 pub read_spec : {M : Type 1} → statement M
 read_spec =
     tie.close
     (tie.spec
-    line-at-requires
-    slice-aggregate-threshold
-    threshold-requires
-    returns
-    read-demands-requires
-    same_length
-    same_length_2
-    returns_2)
+    line_at-span-requires
+    slice_bounds-threshold-end
+    threshold-first-requires
+    returns-then-first-eq-NO_FORM
+    read_demands-requires
+    shape_of-listed
+    shape_of-demands
+    returns)

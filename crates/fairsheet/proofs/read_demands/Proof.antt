@@ -10,111 +10,111 @@ use Rattle.fairsheet.proofs.RowsRead.{RowsRead, rows_none, rows_more, rows_unfor
 use Rattle.fairsheet.proofs.read_demands.Statement.{statement}
 use Rattle.fairsheet.proofs.read_demands.Tie as tie
 
-abbrev invariant-loop : tie.invariant-loop
-invariant-loop text from first listed₀ demands₀ refused₀ count₀ at₀ listed demands refused count at =
+abbrev invariant-loop-at : tie.invariant-loop-at
+invariant-loop-at text from first listed₀ demands₀ refused₀ count₀ at₀ listed demands refused count at =
     (length listed ≡ length listed₀) × (length demands ≡ length demands₀)
     × RowsRead text from first listed demands refused count at
 
-abbrev decreases-loop : tie.decreases-loop
-decreases-loop text from first listed₀ demands₀ refused₀ count₀ at₀ listed demands refused count at = length text - at
+abbrev decreases-loop-at : tie.decreases-loop-at
+decreases-loop-at text from first listed₀ demands₀ refused₀ count₀ at₀ listed demands refused count at = length text - at
 
 -- the line that is read, and the place behind it
-passed : (c : tie.After-line-at invariant-loop decreases-loop)
-    → let loop = c.before.before.loop in
-    Passed c.before.before.before.before.before.before.args.text.now loop.at c.line_at.result.next
-passed c = span_passed _ _ _ c.line_at.ensures c.before.loop-test.true
+passed : (c : tie.After-line_at-span invariant-loop-at decreases-loop-at)
+    → let loop = c.before.before.loop-at in
+    Passed c.before.before.before.before.before.before.args.text.now loop.at c.line_at-span.result.next
+passed c = span_passed _ _ _ c.line_at-span.ensures c.before.loop-at-test.true
 
-loop-holds : tie.Need-loop-init invariant-loop decreases-loop
-loop-holds c = (refl, refl, rows_none _ _ _ _ _)
+loop-at-init : tie.Need-loop-at-init invariant-loop-at decreases-loop-at
+loop-at-init c = (refl, refl, rows_none _ _ _ _ _)
 
-line-at-requires : tie.Need-line-at-requires invariant-loop decreases-loop
-line-at-requires c κs = search rules
+line_at-span-requires : tie.Need-line_at-span-requires invariant-loop-at decreases-loop-at
+line_at-span-requires c κs = search rules
 
-sub-demand : tie.Need-overflow-sub-demand invariant-loop decreases-loop
-sub-demand c = omega (arith, (passed c).forth)
+slice_bounds-demand-count : tie.Need-slice_bounds-demand-count invariant-loop-at decreases-loop-at
+slice_bounds-demand-count c = omega (arith, (passed c).forth)
 
-part-demand-start : tie.Need-slice-bounds-demand-start invariant-loop decreases-loop
+part-demand-start : tie.Need-slice-bounds-demand-start invariant-loop-at decreases-loop-at
 part-demand-start c = omega (arith, (passed c).forth)
 
-part-demand-end : tie.Need-slice-bounds-demand-end invariant-loop decreases-loop
+part-demand-end : tie.Need-slice-bounds-demand-end invariant-loop-at decreases-loop-at
 part-demand-end c = omega (arith, (passed c).within)
 
-demand-requires : tie.Need-demand-requires invariant-loop decreases-loop
-demand-requires c κs = search rules
+demand-row-requires : tie.Need-demand-row-requires invariant-loop-at decreases-loop-at
+demand-row-requires c κs = search rules
 
-same_length : tie.Need-same-length invariant-loop decreases-loop
-same_length c = c.before.before.before.before.before.before.loop.invariant.0
+shape_of-listed-then-row-eq-NO_FORM : tie.Need-shape_of-listed-then-row-eq-NO_FORM invariant-loop-at decreases-loop-at
+shape_of-listed-then-row-eq-NO_FORM c = c.before.before.before.before.before.before.loop-at.invariant.0
 
-same_length_2 : tie.Need-same-length-2 invariant-loop decreases-loop
-same_length_2 c = c.before.before.before.before.before.before.loop.invariant.1
+shape_of-demands-then-row-eq-NO_FORM : tie.Need-shape_of-demands-then-row-eq-NO_FORM invariant-loop-at decreases-loop-at
+shape_of-demands-then-row-eq-NO_FORM c = c.before.before.before.before.before.before.loop-at.invariant.1
 
-returns : tie.Need-returns invariant-loop decreases-loop
-returns c =
+returns-then-row-eq-NO_FORM : tie.Need-returns-then-row-eq-NO_FORM invariant-loop-at decreases-loop-at
+returns-then-row-eq-NO_FORM c =
     let read = c.before.before in
     let found = read.before.before in
-    rows_unformed found.before.before.loop.invariant.2 (passed found) read.demand.ensures c.if1.true
+    rows_unformed found.before.before.loop-at.invariant.2 (passed found) read.demand-row.ensures c.if-row-eq-NO_FORM.true
 
-judged-requires : tie.Need-judged-requires invariant-loop decreases-loop
-judged-requires c κs = search rules
+judged-refused-requires : tie.Need-judged-refused-requires invariant-loop-at decreases-loop-at
+judged-refused-requires c κs = search rules
 
-keep-requires : tie.Need-keep-requires invariant-loop decreases-loop
+keep-requires : tie.Need-keep-requires invariant-loop-at decreases-loop-at
 keep-requires c κs = search rules
 
-keep-requires-2 : tie.Need-keep-requires-2 invariant-loop decreases-loop
-keep-requires-2 c κs = search rules
+keep-requires-in-loop-at : tie.Need-keep-requires-in-loop-at invariant-loop-at decreases-loop-at
+keep-requires-in-loop-at c κs = search rules
 
-add-count : tie.Need-overflow-add-count invariant-loop decreases-loop
-add-count c = search rules
+overflow_add-count : tie.Need-overflow_add-count invariant-loop-at decreases-loop-at
+overflow_add-count c = search rules
 
-loop-less : tie.Need-loop-smaller invariant-loop decreases-loop
-loop-less c =
+loop-at-smaller : tie.Need-loop-at-smaller invariant-loop-at decreases-loop-at
+loop-at-smaller c =
     let found = c.before.before.before.before.before.before.before.before.before.before.before.before.before in
     omega (arith, (passed found).forth, (passed found).within)
 
-loop-again : tie.Need-loop-preserved invariant-loop decreases-loop
-loop-again c =
+loop-at-preserved : tie.Need-loop-at-preserved invariant-loop-at decreases-loop-at
+loop-at-preserved c =
     let second = c.before.before in
     let first = second.before.before.before.before in
     let judged = first.before.before in
     let read = judged.before.before.before in
     let found = read.before.before in
-    let inv = found.before.before.loop.invariant in (
+    let inv = found.before.before.loop-at.invariant in (
       first.keep.auto.0 ∙ inv.0,
-      second.keep2.auto.0 ∙ inv.1,
-      rows_more inv.2 (passed found) read.demand.ensures judged.before.if1.false judged.judged.ensures
-          first.keep.ensures second.keep2.ensures,
+      second.keep-in-loop-at.auto.0 ∙ inv.1,
+      rows_more inv.2 (passed found) read.demand-row.ensures judged.before.if-row-eq-NO_FORM.false judged.judged-refused.ensures
+          first.keep.ensures second.keep-in-loop-at.ensures,
     )
 
-same-length-3 : tie.Need-same-length-3 invariant-loop decreases-loop
-same-length-3 c = c.before.loop.invariant.0
+shape_of-listed : tie.Need-shape_of-listed invariant-loop-at decreases-loop-at
+shape_of-listed c = c.before.loop-at.invariant.0
 
-same-length-4 : tie.Need-same-length-4 invariant-loop decreases-loop
-same-length-4 c = c.before.loop.invariant.1
+shape_of-demands : tie.Need-shape_of-demands invariant-loop-at decreases-loop-at
+shape_of-demands c = c.before.loop-at.invariant.1
 
-returns_2 : tie.Need-returns-2 invariant-loop decreases-loop
-returns_2 c = rows_done c.before.loop.invariant.2 c.loop-test.false
+returns : tie.Need-returns invariant-loop-at decreases-loop-at
+returns c = rows_done c.before.loop-at.invariant.2 c.loop-at-test.false
 
-pub read-demands-spec : {M : Type 1} → statement M
-read-demands-spec =
+pub read_demands_spec : {M : Type 1} → statement M
+read_demands_spec =
     tie.close
     (tie.spec
-    invariant-loop
-    decreases-loop
-    loop-holds
-    line-at-requires
-    sub-demand
+    invariant-loop-at
+    decreases-loop-at
+    loop-at-init
+    line_at-span-requires
+    slice_bounds-demand-count
     part-demand-start
     part-demand-end
-    demand-requires
-    same_length
-    same_length_2
-    returns
-    judged-requires
+    demand-row-requires
+    shape_of-listed-then-row-eq-NO_FORM
+    shape_of-demands-then-row-eq-NO_FORM
+    returns-then-row-eq-NO_FORM
+    judged-refused-requires
     keep-requires
-    keep-requires-2
-    add-count
-    loop-less
-    loop-again
-    same-length-3
-    same-length-4
-    returns_2)
+    keep-requires-in-loop-at
+    overflow_add-count
+    loop-at-smaller
+    loop-at-preserved
+    shape_of-listed
+    shape_of-demands
+    returns)

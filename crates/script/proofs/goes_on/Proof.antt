@@ -11,21 +11,21 @@ use Rattle.script.proofs.goes_on.Tie as tie
 ended-requires : tie.Need-ended-requires
 ended-requires c κs = search rules
 
-returns : tie.Need-returns
-returns c =
+returns-then-ended : tie.Need-returns-then-ended
+returns-then-ended c =
     let start = c.before.before.before.args in
     ap (λ (past : Bool). not past && leb (start.written + line_room) start.size)
-    (sym c.if1.true ∙ c.before.ended.ensures)
+    (sym c.if-ended.true ∙ c.before.ended.ensures)
 
-has-room-requires : tie.Need-has-room-requires
-has-room-requires c κs = search rules
+has_room-requires : tie.Need-has_room-requires
+has_room-requires c κs = search rules
 
-returns_2 : tie.Need-returns-2
-returns_2 c =
+returns : tie.Need-returns
+returns c =
     let start = c.before.before.before.before.args in
     c.has_room.ensures
     ∙ ap (λ (past : Bool). not past && leb (start.written + line_room) start.size)
-    (sym c.before.if1.false ∙ c.before.before.ended.ensures)
+    (sym c.before.if-ended.false ∙ c.before.before.ended.ensures)
 
-pub goes-on-spec : {M : Type 1} → statement M
-goes-on-spec = tie.close (tie.spec ended-requires returns has-room-requires returns_2)
+pub goes_on_spec : {M : Type 1} → statement M
+goes_on_spec = tie.close (tie.spec ended-requires returns-then-ended has_room-requires returns)

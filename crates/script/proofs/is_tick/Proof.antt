@@ -22,24 +22,24 @@ no_tick (Arrive id packet) other = refl
 no_tick Tick other = absurd (other refl)
 
 -- of the calls that are left none is a tick
-others : (c : tie.At-match-keys2) → c.before.args.call ≢ Tick
+others : (c : tie.In_default) → c.before.args.call ≢ Tick
 others c e =
     ⊎_elim (λ h. omega (arith, rw e at h))
     (⊎_elim (λ h. omega (arith, rw e at h))
     (⊎_elim (λ h. omega (arith, rw e at h))
     (⊎_elim (λ h. omega (arith, rw e at h))
     (⊎_elim (λ h. omega (arith, rw e at h)) (λ h. omega (arith, rw e at h))))))
-    c.match.keys2
+    c.in-Tick.keys2
 
-enum_told : tie.Need-enum-told
-enum_told c = search rules
+enum_told-1 : tie.Need-enum_told-1
+enum_told-1 c = search rules
+
+returns-in-Tick : tie.Need-returns-in-Tick
+unfolding is_tick
+returns-in-Tick c = rw c.enum_told.given.1
 
 returns : tie.Need-returns
-unfolding is_tick
-returns c = rw c.enum_told.given.1
+returns c = sym (no_tick c.before.args.call (others c))
 
-returns_2 : tie.Need-returns-2
-returns_2 c = sym (no_tick c.before.args.call (others c))
-
-pub is-tick-spec : {M : Type 1} → statement M
-is-tick-spec = tie.close (tie.spec enum_told returns returns_2)
+pub is_tick_spec : {M : Type 1} → statement M
+is_tick_spec = tie.close (tie.spec enum_told-1 returns-in-Tick returns)

@@ -11,30 +11,30 @@ use Rattle.script.proofs.line.Statement.{statement}
 use Rattle.script.proofs.line.Tie as tie
 
 -- what holds where the line ends
-ends : (c : tie.After-line-at)
+ends : (c : tie.After-line_at-span)
     → let start = c.before.before.before.args in
-    LineEnd start.text.now start.at c.line_at.result.end
-ends c = span_end _ _ _ c.line_at.ensures (omega arith)
+    LineEnd start.text.now start.at c.line_at-span.result.end
+ends c = span_end _ _ _ c.line_at-span.ensures (omega arith)
 
-line-at-requires : tie.Need-line-at-requires
-line-at-requires c κs = search rules
+line_at-span-requires : tie.Need-line_at-span-requires
+line_at-span-requires c κs = search rules
 
-print-unread-requires : tie.Need-print-unread-requires
-print-unread-requires c κs = search rules
+print_unread-requires : tie.Need-print_unread-requires
+print_unread-requires c κs = search rules
 
-same_length : tie.Need-same-length
-same_length c = search rules
+shape_of-out-then-end-text : tie.Need-shape_of-out-then-end-text
+shape_of-out-then-end-text c = search rules
 
-returns : tie.Need-returns
-returns c =
+returns-then-end-text : tie.Need-returns-then-end-text
+returns-then-end-text c =
     let found = c.before.before.before.before.before in
     let start = found.before.before.before in
-    walked_open _ _ _ _ _ _ _ start.requires.1 start.requires.2 _ found.line_at.ensures start.requires.0
-    c.before.before.before.before.if1.true
-    c.before.before.print-unread.ensures
+    walked_open _ _ _ _ _ _ _ start.requires.1 start.requires.2 _ found.line_at-span.ensures start.requires.0
+    c.before.before.before.before.if-end-text.true
+    c.before.before.print_unread.ensures
 
-sub-parse : tie.Need-overflow-sub-parse
-sub-parse c = let end = ends c.before in omega arith
+slice_bounds-parse-count : tie.Need-slice_bounds-parse-count
+slice_bounds-parse-count c = let end = ends c.before in omega arith
 
 part-parse-start : tie.Need-slice-bounds-parse-start
 part-parse-start c = let end = ends c.before in omega arith
@@ -42,51 +42,51 @@ part-parse-start c = let end = ends c.before in omega arith
 part-parse-end : tie.Need-slice-bounds-parse-end
 part-parse-end c = let end = ends c.before in omega arith
 
-parse-requires : tie.Need-parse-requires
-parse-requires c κs = search rules
+parse-read-requires : tie.Need-parse-read-requires
+parse-read-requires c κs = search rules
 
-enum-known-read : tie.Need-enum-known-read
-enum-known-read c = search rules
+enum_known-read : tie.Need-enum_known-read
+enum_known-read c = search rules
 
-enum_told : tie.Need-enum-told
-enum_told c = search rules
+enum_told-1 : tie.Need-enum_told-1
+enum_told-1 c = search rules
 
-unread-number-requires : tie.Need-unread-number-requires
-unread-number-requires c κs = search rules
+unread_number-number-requires : tie.Need-unread_number-number-requires
+unread_number-number-requires c κs = search rules
 
-print-unread-requires-2 : tie.Need-print-unread-requires-2
-print-unread-requires-2 c κs = search rules
+print_unread-requires-in_default : tie.Need-print_unread-requires-in_default
+print_unread-requires-in_default c κs = search rules
 
-same_length_2 : tie.Need-same-length-2
-same_length_2 c = search rules
+shape_of-out-in_default : tie.Need-shape_of-out-in_default
+shape_of-out-in_default c = search rules
 
-returns_2 : tie.Need-returns-2
-returns_2 c =
+returns-in_default : tie.Need-returns-in_default
+returns-in_default c =
     let told = c.before.before.before.before.before in
     let parsed = told.before.before in
     let found = parsed.before.before.before in
     let start = found.before.before.before in
     let within = (ends found).within in
-    let more = parsed.before.before.if1.false in
+    let more = parsed.before.before.if-end-text.false in
     let none = told.enum_told.given.1 in
-    let number = c.before.before.before.before.unread-number.ensures ∙ ap unread_number none in
-    walked_unread _ _ _ _ _ _ _ start.requires.1 start.requires.2 _ found.line_at.ensures (omega (arith, within)) _
-    start.requires.0 (sym parsed.parse.ensures ∙ none ∙ ap Unread (sym number)) c.before.before.print-unread2.ensures
+    let number = c.before.before.before.before.unread_number-number.ensures ∙ ap unread_number none in
+    walked_unread _ _ _ _ _ _ _ start.requires.1 start.requires.2 _ found.line_at-span.ensures (omega (arith, within)) _
+    start.requires.0 (sym parsed.parse-read.ensures ∙ none ∙ ap Unread (sym number)) c.before.before.print_unread-in_default.ensures
 
-is-tick-requires : tie.Need-is-tick-requires
-is-tick-requires c κs = search rules
+is_tick-ticked-requires : tie.Need-is_tick-ticked-requires
+is_tick-ticked-requires c κs = search rules
 
-perform-told-requires : tie.Need-perform-told-requires
-perform-told-requires c κs = search rules
+perform_told-performed-requires : tie.Need-perform_told-performed-requires
+perform_told-performed-requires c κs = search rules
 
 show-requires : tie.Need-show-requires
 show-requires c κs = search rules
 
-same-length-3 : tie.Need-same-length-3
-same-length-3 c = search rules
+shape_of-out : tie.Need-shape_of-out
+shape_of-out c = search rules
 
-returns-3 : tie.Need-returns-3
-returns-3 c =
+returns : tie.Need-returns
+returns c =
     let performed = c.before.before.before.before.before.before.before in
     let asked = performed.before.before.before.before.before.before.before in
     let read = asked.before.before in
@@ -94,15 +94,15 @@ returns-3 c =
     let found = parsed.before.before.before in
     let start = found.before.before.before in
     let within = (ends found).within in
-    let more = parsed.before.before.if1.false in
-    walked_form _ _ _ _ _ _ _ start.requires.1 start.requires.2 _ found.line_at.ensures (omega (arith, within)) _
-    (sym parsed.parse.ensures ∙ read.read.given.1) start.requires.0 _ _ performed.perform-told.ensures
-    _ asked.is-tick.ensures
+    let more = parsed.before.before.if-end-text.false in
+    walked_form _ _ _ _ _ _ _ start.requires.1 start.requires.2 _ found.line_at-span.ensures (omega (arith, within)) _
+    (sym parsed.parse-read.ensures ∙ read.read.given.1) start.requires.0 _ _ performed.perform_told-performed.ensures
+    _ asked.is_tick-ticked.ensures
     (c.before.before.show.ensures _)
 
-pub line-spec : {M : Type 1} → statement M
-line-spec =
+pub line_spec : {M : Type 1} → statement M
+line_spec =
     tie.close
-    (tie.spec line-at-requires print-unread-requires same_length returns sub-parse part-parse-start part-parse-end parse-requires
-    enum-known-read enum_told unread-number-requires print-unread-requires-2 same_length_2 returns_2 is-tick-requires perform-told-requires
-    show-requires same-length-3 returns-3)
+    (tie.spec line_at-span-requires print_unread-requires shape_of-out-then-end-text returns-then-end-text slice_bounds-parse-count part-parse-start part-parse-end parse-read-requires
+    enum_known-read enum_told-1 unread_number-number-requires print_unread-requires-in_default shape_of-out-in_default returns-in_default is_tick-ticked-requires perform_told-performed-requires
+    show-requires shape_of-out returns)

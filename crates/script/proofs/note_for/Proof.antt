@@ -10,32 +10,32 @@ use Rattle.script.proofs.note_for.Statement.{statement}
 use Rattle.script.proofs.note_for.Tie as tie
 
 -- whoever is left is no tenant
-others : (c : tie.At-match-keys2) (id : ℕ) → c.before.before.args.audience ≢ Tenant id
-others c id e = ⊎_elim (λ h. omega (arith, rw e at h)) (λ h. omega (arith, rw e at h)) c.match.keys2
+others : (c : tie.In_default) (id : ℕ) → c.before.before.args.audience ≢ Tenant id
+others c id e = ⊎_elim (λ h. omega (arith, rw e at h)) (λ h. omega (arith, rw e at h)) c.in-Tenant.keys2
 
-reason-requires : tie.Need-reason-requires
-reason-requires c κs = search rules
+reason-reason-requires : tie.Need-reason-reason-requires
+reason-reason-requires c κs = search rules
 
-enum-known-audience : tie.Need-enum-known-audience
-enum-known-audience c = search rules
+enum_known-audience : tie.Need-enum_known-audience
+enum_known-audience c = search rules
 
 tenant-requires : tie.Need-tenant-requires
 tenant-requires c κs = search rules
 
-returns : tie.Need-returns
-returns c t =
+returns-in-Tenant : tie.Need-returns-in-Tenant
+returns-in-Tenant c t =
     let asked = c.before.before.before.before in
-    rw c.before.before.audience.given.1 (rw (asked.reason.ensures t) at (c.tenant.ensures t))
+    rw c.before.before.audience.given.1 (rw (asked.reason-reason.ensures t) at (c.tenant.ensures t))
 
 operator-requires : tie.Need-operator-requires
 operator-requires c κs = search rules
 
-returns_2 : tie.Need-returns-2
-returns_2 c t =
-    rw (c.before.before.reason.ensures t) at c.operator.ensures
+returns : tie.Need-returns
+returns c t =
+    rw (c.before.before.reason-reason.ensures t) at c.operator.ensures
     ∙ note_whole _ _ _ c.before.before.before.args.audience (others c.before)
 
-pub note-for-spec : {M : Type 1} → statement M
-note-for-spec =
+pub note_for_spec : {M : Type 1} → statement M
+note_for_spec =
     tie.close
-    (tie.spec reason-requires enum-known-audience tenant-requires returns operator-requires returns_2)
+    (tie.spec reason-reason-requires enum_known-audience tenant-requires returns-in-Tenant operator-requires returns)

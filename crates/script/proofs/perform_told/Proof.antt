@@ -6,8 +6,8 @@ use Rattle.definitions.proofs.Laws.Tests.{true-false}
 use Rattle.script.proofs.perform_told.Statement.{statement}
 use Rattle.script.proofs.perform_told.Tie as tie
 
-enum-known-call : tie.Need-enum-known-call
-enum-known-call c = search rules
+enum_known-call : tie.Need-enum_known-call
+enum_known-call c = search rules
 
 open-requires : tie.Need-open-requires
 open-requires c κs = search rules
@@ -15,126 +15,126 @@ open-requires c κs = search rules
 undrawn-requires : tie.Need-undrawn-requires
 undrawn-requires c κs = search rules
 
-enum-known-call-2 : tie.Need-enum-known-call-2
-enum-known-call-2 c = search rules
+enum_known-call-in-Join-1 : tie.Need-enum_known-call-in-Join-1
+enum_known-call-in-Join-1 c = search rules
 
 join-requires : tie.Need-join-requires
 join-requires c κs = search rules
 
-undrawn-requires-2 : tie.Need-undrawn-requires-2
-undrawn-requires-2 c κs = search rules
+undrawn-requires-in-Join : tie.Need-undrawn-requires-in-Join
+undrawn-requires-in-Join c κs = search rules
 
-enum-known-call-3 : tie.Need-enum-known-call-3
-enum-known-call-3 c = search rules
+enum_known-call-in-Change-1 : tie.Need-enum_known-call-in-Change-1
+enum_known-call-in-Change-1 c = search rules
 
 change-requires : tie.Need-change-requires
 change-requires c κs = search rules
 
-undrawn-requires-3 : tie.Need-undrawn-requires-3
-undrawn-requires-3 c κs = search rules
+undrawn-requires-in-Change : tie.Need-undrawn-requires-in-Change
+undrawn-requires-in-Change c κs = search rules
 
-enum-known-call-4 : tie.Need-enum-known-call-4
-enum-known-call-4 c = search rules
+enum_known-call-in-Leave-1 : tie.Need-enum_known-call-in-Leave-1
+enum_known-call-in-Leave-1 c = search rules
 
 leave-requires : tie.Need-leave-requires
 leave-requires c κs = search rules
 
-undrawn-requires-4 : tie.Need-undrawn-requires-4
-undrawn-requires-4 c κs = search rules
+undrawn-requires-in-Leave : tie.Need-undrawn-requires-in-Leave
+undrawn-requires-in-Leave c κs = search rules
 
-enum-known-call-5 : tie.Need-enum-known-call-5
-enum-known-call-5 c = search rules
+enum_known-call-in-Load-1 : tie.Need-enum_known-call-in-Load-1
+enum_known-call-in-Load-1 c = search rules
 
 load-requires : tie.Need-load-requires
 load-requires c κs = search rules
 
-undrawn-requires-5 : tie.Need-undrawn-requires-5
-undrawn-requires-5 c κs = search rules
+undrawn-requires-in-Load : tie.Need-undrawn-requires-in-Load
+undrawn-requires-in-Load c κs = search rules
 
-enum-known-call-6 : tie.Need-enum-known-call-6
-enum-known-call-6 c = search rules
+enum_known-call-in-Arrive-1 : tie.Need-enum_known-call-in-Arrive-1
+enum_known-call-in-Arrive-1 c = search rules
 
 arrive-requires : tie.Need-arrive-requires
 arrive-requires c κs = search rules
 
-undrawn-requires-6 : tie.Need-undrawn-requires-6
-undrawn-requires-6 c κs = search rules
+undrawn-requires-in-Arrive : tie.Need-undrawn-requires-in-Arrive
+undrawn-requires-in-Arrive c κs = search rules
 
-enum_told : tie.Need-enum-told
-enum_told c = search rules
+enum_told-1 : tie.Need-enum_told-1
+enum_told-1 c = search rules
 
 tick-requires : tie.Need-tick-requires
 tick-requires c κs = search rules
 
-returns : tie.Need-returns
+returns-in-Open : tie.Need-returns-in-Open
 unfolding is_tick
-returns c =
+returns-in-Open c =
     rw c.before.before.before.before.before.before.before.before.before.call.given.1
     (record { promised = rw c.undrawn.ensures c.before.«open».ensures; sum = λ tick. true-false tick refl })
 
-returns_2 : tie.Need-returns-2
+returns-in-Join : tie.Need-returns-in-Join
 unfolding is_tick
-returns_2 c =
-    rw c.before.before.before.before.before.before.before.before.before.call2.given.1
-    (record { promised = rw c.undrawn2.ensures c.before.join.ensures; sum = λ tick. true-false tick refl })
+returns-in-Join c =
+    rw c.before.before.before.before.before.before.before.before.before.call-in-Join-1.given.1
+    (record { promised = rw c.undrawn-in-Join.ensures c.before.join.ensures; sum = λ tick. true-false tick refl })
 
-returns-3 : tie.Need-returns-3
+returns-in-Change : tie.Need-returns-in-Change
 unfolding is_tick
-returns-3 c =
-    rw c.before.before.before.before.before.before.before.before.before.call3.given.1
-    (record { promised = rw c.undrawn3.ensures c.before.change.ensures; sum = λ tick. true-false tick refl })
+returns-in-Change c =
+    rw c.before.before.before.before.before.before.before.before.before.call-in-Change-1.given.1
+    (record { promised = rw c.undrawn-in-Change.ensures c.before.change.ensures; sum = λ tick. true-false tick refl })
 
-returns-4 : tie.Need-returns-4
+returns-in-Leave : tie.Need-returns-in-Leave
 unfolding is_tick
-returns-4 c =
-    rw c.before.before.before.before.before.before.before.before.before.call4.given.1
-    (record { promised = rw c.undrawn4.ensures c.before.leave.ensures; sum = λ tick. true-false tick refl })
+returns-in-Leave c =
+    rw c.before.before.before.before.before.before.before.before.before.call-in-Leave-1.given.1
+    (record { promised = rw c.undrawn-in-Leave.ensures c.before.leave.ensures; sum = λ tick. true-false tick refl })
 
-returns-5 : tie.Need-returns-5
+returns-in-Load : tie.Need-returns-in-Load
 unfolding is_tick
-returns-5 c =
-    rw c.before.before.before.before.before.before.before.before.before.call5.given.1
-    (record { promised = rw c.undrawn5.ensures c.before.load.ensures; sum = λ tick. true-false tick refl })
+returns-in-Load c =
+    rw c.before.before.before.before.before.before.before.before.before.call-in-Load-1.given.1
+    (record { promised = rw c.undrawn-in-Load.ensures c.before.load.ensures; sum = λ tick. true-false tick refl })
 
-returns-6 : tie.Need-returns-6
+returns-in-Arrive : tie.Need-returns-in-Arrive
 unfolding is_tick
-returns-6 c =
-    rw c.before.before.before.before.before.before.before.before.before.call6.given.1
-    (record { promised = rw c.undrawn6.ensures c.before.arrive.ensures; sum = λ tick. true-false tick refl })
+returns-in-Arrive c =
+    rw c.before.before.before.before.before.before.before.before.before.call-in-Arrive-1.given.1
+    (record { promised = rw c.undrawn-in-Arrive.ensures c.before.arrive.ensures; sum = λ tick. true-false tick refl })
 
-returns-7 : tie.Need-returns-7
-returns-7 c =
+returns-in-Tick : tie.Need-returns-in-Tick
+returns-in-Tick c =
     rw c.before.before.before.before.before.before.before.enum_told.given.1
     (record { promised = c.tick.ensures.0; sum = λ tick. c.tick.ensures.1.sum })
 
-pub perform-told-spec : {M : Type 1} → statement M
-perform-told-spec =
+pub perform_told_spec : {M : Type 1} → statement M
+perform_told_spec =
     tie.close
     (tie.spec
-    enum-known-call
+    enum_known-call
     open-requires
     undrawn-requires
-    enum-known-call-2
+    enum_known-call-in-Join-1
     join-requires
-    undrawn-requires-2
-    enum-known-call-3
+    undrawn-requires-in-Join
+    enum_known-call-in-Change-1
     change-requires
-    undrawn-requires-3
-    enum-known-call-4
+    undrawn-requires-in-Change
+    enum_known-call-in-Leave-1
     leave-requires
-    undrawn-requires-4
-    enum-known-call-5
+    undrawn-requires-in-Leave
+    enum_known-call-in-Load-1
     load-requires
-    undrawn-requires-5
-    enum-known-call-6
+    undrawn-requires-in-Load
+    enum_known-call-in-Arrive-1
     arrive-requires
-    undrawn-requires-6
-    enum_told
+    undrawn-requires-in-Arrive
+    enum_told-1
     tick-requires
-    returns
-    returns_2
-    returns-3
-    returns-4
-    returns-5
-    returns-6
-    returns-7)
+    returns-in-Open
+    returns-in-Join
+    returns-in-Change
+    returns-in-Leave
+    returns-in-Load
+    returns-in-Arrive
+    returns-in-Tick)

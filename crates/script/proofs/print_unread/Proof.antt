@@ -4,30 +4,30 @@ use Rattle.script.proofs.LineShown.{nothing_written}
 use Rattle.script.proofs.print_unread.Statement.{statement}
 use Rattle.script.proofs.print_unread.Tie as tie
 
-enum_told : tie.Need-enum-told
-enum_told c = search rules
+enum_told-1 : tie.Need-enum_told-1
+enum_told-1 c = search rules
 
-print-refused-requires : tie.Need-print-refused-requires
-print-refused-requires c κs = search rules
+print_refused-requires : tie.Need-print_refused-requires
+print_refused-requires c κs = search rules
 
-enum-told-2 : tie.Need-enum-told-2
-enum-told-2 c = search rules
+enum_told-in-Operator : tie.Need-enum_told-in-Operator
+enum_told-in-Operator c = search rules
 
-enum-told-3 : tie.Need-enum-told-3
-enum-told-3 c = search rules
+enum_told-in-Tenant : tie.Need-enum_told-in-Tenant
+enum_told-in-Tenant c = search rules
 
-same_length : tie.Need-same-length
-same_length c = search rules
+shape_of-out : tie.Need-shape_of-out
+shape_of-out c = search rules
 
-returns : tie.Need-returns
-returns c = rw c.before.before.before.before.enum_told.given.1 c.before.before.print-refused.ensures
+returns-in-Caller : tie.Need-returns-in-Caller
+returns-in-Caller c = rw c.before.before.before.before.enum_told.given.1 c.before.before.print_refused.ensures
 
-returns_2 : tie.Need-returns-2
-returns_2 c = rw c.enum-told2.given.1 (nothing_written _ _)
+returns-in-Operator : tie.Need-returns-in-Operator
+returns-in-Operator c = rw c.enum_told-in-Operator-1.given.1 (nothing_written _ _)
 
-returns-3 : tie.Need-returns-3
-returns-3 c = rw c.enum-told3.given.1 (nothing_written _ _)
+returns-in-Tenant : tie.Need-returns-in-Tenant
+returns-in-Tenant c = rw c.enum_told-in-Tenant-1.given.1 (nothing_written _ _)
 
-pub print-unread-spec : {M : Type 1} → statement M
-print-unread-spec =
-    tie.close (tie.spec enum_told print-refused-requires enum-told-2 enum-told-3 same_length returns returns_2 returns-3)
+pub print_unread_spec : {M : Type 1} → statement M
+print_unread_spec =
+    tie.close (tie.spec enum_told-1 print_refused-requires enum_told-in-Operator enum_told-in-Tenant shape_of-out returns-in-Caller returns-in-Operator returns-in-Tenant)

@@ -11,44 +11,44 @@ use Rattle.script.proofs.show.Statement.{statement}
 use Rattle.script.proofs.show.Tie as tie
 
 -- whoever is left is not the caller
-others : (c : tie.At-match-keys2) → c.before.before.args.audience ≢ Caller
-others c e = ⊎_elim (λ h. omega (arith, rw e at h)) (λ h. omega (arith, rw e at h)) c.match.keys2
+others : (c : tie.In_default) → c.before.before.args.audience ≢ Caller
+others c e = ⊎_elim (λ h. omega (arith, rw e at h)) (λ h. omega (arith, rw e at h)) c.in-Caller.keys2
 
-enum_told : tie.Need-enum-told
-enum_told c = search rules
+enum_told-1 : tie.Need-enum_told-1
+enum_told-1 c = search rules
 
 print-requires : tie.Need-print-requires
 print-requires c κs = search rules
 
-same_length : tie.Need-same-length
-same_length c = search rules
+shape_of-out-in-Caller : tie.Need-shape_of-out-in-Caller
+shape_of-out-in-Caller c = search rules
+
+returns-in-Caller : tie.Need-returns-in-Caller
+returns-in-Caller c t = rw c.before.before.before.before.enum_told.given.1 c.before.before.print.ensures
+
+returns-then-not-ticked : tie.Need-returns-then-not-ticked
+returns-then-not-ticked c t =
+    let match = c.before in
+    line_as (call-told _ _ _ _ _ (others match)) (rw (not-true match.before.before.args.ticked c.if-not-ticked.true-raw) (nothing_written _ _))
+
+note_for-note-requires : tie.Need-note_for-note-requires
+note_for-note-requires c κs = search rules
+
+print_note-requires : tie.Need-print_note-requires
+print_note-requires c κs = search rules
+
+shape_of-out : tie.Need-shape_of-out
+shape_of-out c = search rules
 
 returns : tie.Need-returns
-returns c t = rw c.before.before.before.before.enum_told.given.1 c.before.before.print.ensures
-
-returns_2 : tie.Need-returns-2
-returns_2 c t =
-    let match = c.before in
-    line_as (call-told _ _ _ _ _ (others match)) (rw (not-true match.before.before.args.ticked c.if1.true) (nothing_written _ _))
-
-note-for-requires : tie.Need-note-for-requires
-note-for-requires c κs = search rules
-
-print-note-requires : tie.Need-print-note-requires
-print-note-requires c κs = search rules
-
-same_length_2 : tie.Need-same-length-2
-same_length_2 c = search rules
-
-returns-3 : tie.Need-returns-3
-returns-3 c t =
+returns c t =
     let noted = c.before.before.before.before in
     let match = noted.before.before in
     line_as (call-told _ _ _ _ _ (others match))
-    (rw (not-false match.before.before.args.ticked noted.before.if1.false)
-    (rw (noted.note-for.ensures t) at c.before.before.print-note.ensures))
+    (rw (not-false match.before.before.args.ticked noted.before.if-not-ticked.false-raw)
+    (rw (noted.note_for-note.ensures t) at c.before.before.print_note.ensures))
 
-pub show-spec : {M : Type 1} → statement M
-show-spec =
+pub show_spec : {M : Type 1} → statement M
+show_spec =
     tie.close
-    (tie.spec enum_told print-requires same_length returns returns_2 note-for-requires print-note-requires same_length_2 returns-3)
+    (tie.spec enum_told-1 print-requires shape_of-out-in-Caller returns-in-Caller returns-then-not-ticked note_for-note-requires print_note-requires shape_of-out returns)
