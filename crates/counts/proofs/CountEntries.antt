@@ -1,6 +1,6 @@
 -- Stores in the table of counts: two entries are one only if they are the same count of the same id, so that a store changes one count
 -- alone. Assumes nothing.
-use Rattle.std.proofs.Common.{◌≡◌, ℕ, ◌*◌, ◌<◌, Bool, true, false, cond, eqb, ◌≢◌, List, length, get_or, set, sym, refl, ap, ◌∙◌, ap₂, arith, lit<, length-set, get_or-set_other, get_or-set_same}
+use Rattle.std.proofs.Common.{◌≡◌, ℕ, ◌*◌, ◌<◌, Bool, true, false, cond, eqb, ◌≢◌, List, length, get_or, set, refl, ap, ◌∙◌, arith, lit<, length-set, get_or-set_other, get_or-set_same}
 use Rattle.definitions.specs.Sizes.{ids}
 use Rattle.definitions.specs.Counts.{Count, count_accepted, count_sent, count14, count15, count_emptied, count_dummies, column}
 use Rattle.definitions.specs.Counts.{Entry, nothing, more, anew, entered, wrapped_plus}

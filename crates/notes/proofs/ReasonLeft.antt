@@ -1,6 +1,6 @@
 -- The reason that is read off the core behind a slot is the one by which the slot went: within the limits the rates in a draw are some,
 -- so that a sum of 0 tells that there was none, and the core holds the value that gave the target. Assumes nothing.
-use Prim.Native.Nat.{ℕ, ◌%◌}
+use Prim.Native.Nat.{ℕ}
 use mathlib.Core.Path.{◌≡◌, refl, sym, ap}
 use mathlib.Core.List.{List, [], ◌∷◌}
 use native.Mathlib.Omega.{arith}

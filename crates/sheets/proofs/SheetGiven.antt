@@ -18,7 +18,6 @@ use Rattle.tables.specs.Tables.{Tables}
 use Rattle.tables.specs.Meaning.{state_of, core_of, counts_of}
 use Rattle.tables.specs.Numbers.{refusal}
 use Rattle.tables.proofs.ActiveChecks.{active_past}
-use Rattle.tables.proofs.Promises.{core_of-opened}
 
 unless_some : (n : ℕ) (tally : Tally) → n ≢ 0 → Unavailable n ≡ unless_unavailable n tally
 unless_some zero tally some = absurd (some refl)

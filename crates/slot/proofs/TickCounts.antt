@@ -1,7 +1,7 @@
 -- What a tick enters in the sheets: what was sent, by the one whose slot it is, who is one of the ids. By cases on the outcome.
 -- Assumes nothing.
 use Prim.Native.Nat.{ℕ, zero, suc, ◌<◌}
-use mathlib.Core.Path.{◌≡◌, refl, sym, ap, subst, ◌∙◌}
+use mathlib.Core.Path.{◌≡◌, refl, sym, ap, ◌∙◌}
 use mathlib.Core.Bool.{Bool, true, false}
 use mathlib.Core.List.{List, [], ◌∷◌}
 use Rattle.definitions.specs.declared.Packet.{Packet}

@@ -1,8 +1,8 @@
 -- How a call's promise of the counts is kept: by what was entered in the table, which is what the definitions enter for it. Assumes nothing.
-use Prim.Native.Nat.{ℕ, ◌*◌, ◌<◌}
+use Prim.Native.Nat.{ℕ, ◌<◌}
 use mathlib.Core.Path.{◌≡◌, refl, sym, ap, ◌∙◌}
 use mathlib.Core.Bool.{Bool, true, false, cond, ◌&&◌}
-use lib.Dec.{eqb, ltb}
+use lib.Dec.{ltb}
 use lib.ListN.{length}
 use borrow.Author.Tests.{lt-ltb, ltb-true}
 use Rattle.definitions.specs.declared.Answer.TheVariants.{Accepted, Refused}
@@ -13,7 +13,7 @@ use Rattle.definitions.specs.History.{client_of, stock_of}
 use Rattle.definitions.specs.Counts.{Count, Entry, nothing, zeros, entry_of_accepted, entry_of_refused, entry_of, entered, wrapped_plus}
 use Rattle.definitions.specs.Counts.{counts_after}
 use Rattle.definitions.proofs.Laws.Tests.{true-false, eqb-cases, and_both}
-use Rattle.counts.specs.CountTable.{count_columns, count_in, for_one, Entered}
+use Rattle.counts.specs.CountTable.{count_in, for_one, Entered}
 use Rattle.tables.specs.declared.Control.{Control}
 use Rattle.tables.specs.declared.Answered.{Answered}
 use Rattle.tables.specs.Tables.{Tables}

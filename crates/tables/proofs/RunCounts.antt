@@ -5,7 +5,7 @@ use mathlib.Core.Path.{◌≡◌, refl, sym, ap, ◌∙◌, fun_ext}
 use mathlib.Core.Bool.{Bool, true, false}
 use Rattle.definitions.specs.declared.Answer.{Answer}
 use Rattle.definitions.specs.Event.{Event}
-use Rattle.definitions.specs.State.{Core, unopened, running}
+use Rattle.definitions.specs.State.{Core, unopened}
 use Rattle.definitions.specs.Core.{step}
 use Rattle.definitions.specs.History.{Trace, after, trace_of, scheduler}
 use Rattle.definitions.specs.Sameness.{kept}

@@ -1,7 +1,6 @@
 -- Handles and lengths stand: by each call's contract, and by induction over any calls of which none may write. Assumes nothing.
 use mathlib.Core.Path.{◌≡◌, refl, ◌∙◌}
 use mathlib.Core.Bool.{false}
-use Rattle.definitions.specs.declared.Answer.{Answer}
 use Rattle.definitions.specs.History.{Trace}
 use Rattle.definitions.proofs.Laws.Tests.{or-false}
 use Rattle.tables.specs.declared.Control.{Control}

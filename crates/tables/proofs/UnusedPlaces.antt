@@ -12,7 +12,7 @@ use lib.ListN.{length, get_or, set, length-set}
 use lib.Seq.{get_or-set_other}
 use borrow.Author.Tests.{ltb-true}
 use Rattle.definitions.specs.declared.Answer.TheVariants.{Accepted}
-use Rattle.definitions.specs.Sizes.{ids, places}
+use Rattle.definitions.specs.Sizes.{ids}
 use Rattle.definitions.specs.Client.{is_indifferent}
 use Rattle.definitions.specs.Stock.{bare}
 use Rattle.definitions.specs.Counts.{zeros}

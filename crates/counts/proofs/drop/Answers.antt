@@ -1,5 +1,5 @@
 -- `counts::drop` meets its contract: each number that has a count raises it by one. Assumes nothing.
-use Rattle.std.proofs.Common.{eqb, sym, refl, lit<, rules, ne_eqb}
+use Rattle.std.proofs.Common.{eqb, sym, refl, lit<, ne_eqb}
 use Rattle.definitions.specs.Counts.{column, count14, count15, nothing, entry_of_drop}
 use Rattle.definitions.proofs.Laws.Tests.{cond_same}
 use Rattle.counts.proofs.CountEntries.{entered_nothing, entered_as}

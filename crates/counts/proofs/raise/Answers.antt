@@ -1,5 +1,4 @@
 -- `counts::raise` meets its contract: the sum wraps at 64 bits. Assumes nothing.
-use Rattle.std.proofs.Common.{rules}
 use Rattle.definitions.specs.Sizes.{count_span}
 use Rattle.definitions.specs.Counts.{wrapped, wrapped_plus}
 use Rattle.counts.proofs.CountEntries.{entered_raised}

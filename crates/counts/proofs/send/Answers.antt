@@ -1,5 +1,5 @@
 -- `counts::send` meets its contract: an arm for each outcome. Assumes nothing.
-use Rattle.std.proofs.Common.{◌≡◌, ℕ, false, sym, refl, ap, subst, lit<, rules}
+use Rattle.std.proofs.Common.{◌≡◌, ℕ, false, sym, refl, ap, subst, lit<}
 use Rattle.definitions.specs.declared.Outcome.{Outcome}
 use Rattle.definitions.specs.Counts.{column, count_sent, count_dummies, entry_of_slot}
 use Rattle.counts.specs.CountTable.{SenderBelow}

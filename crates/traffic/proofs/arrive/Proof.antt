@@ -3,7 +3,6 @@
 use borrow.Author.Rules.{rules}
 use Prim.Native.Nat.{◌≤◌, ◌<◌}
 use mathlib.Core.Path.{◌≡◌, refl, sym, ◌∙◌}
-use mathlib.Core.Logic.{⊎_elim}
 use lib.Dec.{lit<}
 use Rattle.definitions.specs.Sizes.{ids, places, longest}
 use Rattle.definitions.specs.Client.{is_indifferent}
@@ -130,16 +129,16 @@ met c =
     let a = e.args in
     let free = c.free_place-place in
     elim c.if-has.branch [
-      then-has w ↦
-    let owes = same c.before ∙ w.if-has.true in (
-      rw owes (w.terms-is ∙ w.charge.ensures),
-      rw w.links-is
-          (lined_indifferent a.control (entry c.before.before.before.before.before.before.before.before) (shape c.before.before.before.before.before.before.before.before) a.id (below c.before.before.before.before.before.before.before.before) (room c.before.before.before.before.before.before.before.before) owes _ _ free.ensures
-          w.push.ensures.0 w.push.ensures.1),
-    )
+      | then-has w ↦
+          let owes = same c.before ∙ w.if-has.true in (
+            rw owes (w.terms-is ∙ w.charge.ensures),
+            rw w.links-is
+                (lined_indifferent a.control (entry c.before.before.before.before.before.before.before.before) (shape c.before.before.before.before.before.before.before.before) a.id (below c.before.before.before.before.before.before.before.before) (room c.before.before.before.before.before.before.before.before) owes _ _ free.ensures
+                w.push.ensures.0 w.push.ensures.1),
+          )
       | else-has w ↦
-    let keeps = same c.before ∙ w.if-has.false in
-    (rw keeps w.terms-is, rw w.links-is (lined_private a.control (entry c.before.before.before.before.before.before.before.before) (shape c.before.before.before.before.before.before.before.before) a.id keeps))
+          let keeps = same c.before ∙ w.if-has.false in
+          (rw keeps w.terms-is, rw w.links-is (lined_private a.control (entry c.before.before.before.before.before.before.before.before) (shape c.before.before.before.before.before.before.before.before) a.id keeps))
     ]
 
 mark-requires : tie.Need-mark-requires
