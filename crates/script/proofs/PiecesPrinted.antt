@@ -13,7 +13,7 @@ use Rattle.definitions.specs.Counts.{Whole, whole_new}
 use Rattle.definitions.proofs.Laws.Tests.{lt_cases}
 use Rattle.grammar.specs.declared.Audience.{Audience}
 use Rattle.grammar.specs.Bytes.{text_limit}
-use Rattle.grammar.specs.Printout.{printed, whole_from, printout_for, printout_in}
+use Rattle.grammar.specs.Printout.{whole_from, printout_for, printout_in}
 use Rattle.printer.specs.Printed.{line_room, Printed}
 use Rattle.printer.proofs.Appending.{appended_front}
 use Rattle.tables.specs.declared.Control.{Control}

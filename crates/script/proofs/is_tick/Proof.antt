@@ -1,8 +1,7 @@
 -- `script::is_tick` meets its contract. Assumes nothing.
 use borrow.Author.Rules.{rules}
-use native.Mathlib.Omega.{arith}
 use mathlib.Core.Path.{◌≡◌, refl, sym}
-use mathlib.Core.Logic.{◌≢◌, ⊎_elim}
+use mathlib.Core.Logic.{◌≢◌}
 use mathlib.Core.Bool.{false}
 use Rattle.definitions.specs.Sameness.{is_tick}
 use Rattle.grammar.specs.declared.Call.{Call}
@@ -22,24 +21,18 @@ no_tick (Arrive id packet) other = refl
 no_tick Tick other = absurd (other refl)
 
 -- of the calls that are left none is a tick
-others : (c : tie.In_default) → c.before.args.call ≢ Tick
-others c e =
-    ⊎_elim (λ h. omega (arith, rw e at h))
-    (⊎_elim (λ h. omega (arith, rw e at h))
-    (⊎_elim (λ h. omega (arith, rw e at h))
-    (⊎_elim (λ h. omega (arith, rw e at h))
-    (⊎_elim (λ h. omega (arith, rw e at h)) (λ h. omega (arith, rw e at h))))))
-    c.in-Tick.keys2
+others : (c : tie.In_default) → c.args.call ≢ Tick
+others c = c.in_default.not-Tick
 
 enum_told-1 : tie.Need-enum_told-1
 enum_told-1 c = search rules
 
 returns-in-Tick : tie.Need-returns-in-Tick
 unfolding is_tick
-returns-in-Tick c = rw c.enum_told.given.1
+returns-in-Tick c = rw c.in-Tick.is
 
 returns : tie.Need-returns
-returns c = sym (no_tick c.before.args.call (others c))
+returns c = sym (no_tick c.args.call (others c))
 
 pub is_tick_spec : {M : Type 1} → statement M
 is_tick_spec = tie.close (tie.spec enum_told-1 returns-in-Tick returns)

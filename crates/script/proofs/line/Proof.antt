@@ -12,7 +12,7 @@ use Rattle.script.proofs.line.Tie as tie
 
 -- what holds where the line ends
 ends : (c : tie.After-line_at-span)
-    → let start = c.before.before.before.args in
+    → let start = c.args in
     LineEnd start.text.now start.at c.line_at-span.result.end
 ends c = span_end _ _ _ c.line_at-span.ensures (omega arith)
 
@@ -27,19 +27,19 @@ shape_of-out-then-end-text c = search rules
 
 returns-then-end-text : tie.Need-returns-then-end-text
 returns-then-end-text c =
-    let found = c.before.before.before.before.before in
-    let start = found.before.before.before in
+    let found = c in
+    let start = found in
     walked_open _ _ _ _ _ _ _ start.requires.1 start.requires.2 _ found.line_at-span.ensures start.requires.0
-    c.before.before.before.before.if-end-text.true
-    c.before.before.print_unread.ensures
+    c.if-end-text.true
+    c.print_unread.ensures
 
 slice_bounds-parse-count : tie.Need-slice_bounds-parse-count
 slice_bounds-parse-count c = let end = ends c.before in omega arith
 
-part-parse-start : tie.Need-slice-bounds-parse-start
+part-parse-start : tie.Need-slice_bounds-parse-start
 part-parse-start c = let end = ends c.before in omega arith
 
-part-parse-end : tie.Need-slice-bounds-parse-end
+part-parse-end : tie.Need-slice_bounds-parse-end
 part-parse-end c = let end = ends c.before in omega arith
 
 parse-read-requires : tie.Need-parse-read-requires
@@ -62,16 +62,16 @@ shape_of-out-in_default c = search rules
 
 returns-in_default : tie.Need-returns-in_default
 returns-in_default c =
-    let told = c.before.before.before.before.before in
-    let parsed = told.before.before in
-    let found = parsed.before.before.before in
-    let start = found.before.before.before in
-    let within = (ends found).within in
-    let more = parsed.before.before.if-end-text.false in
-    let none = told.enum_told.given.1 in
-    let number = c.before.before.before.before.unread_number-number.ensures ∙ ap unread_number none in
+    let told = c in
+    let parsed = told in
+    let found = parsed in
+    let start = found in
+    let within = (span_end _ _ _ c.line_at-span.ensures (omega arith)).within in
+    let more = parsed.if-end-text.false in
+    let none = c.in_default.is in
+    let number = c.unread_number-number.ensures ∙ ap unread_number none in
     walked_unread _ _ _ _ _ _ _ start.requires.1 start.requires.2 _ found.line_at-span.ensures (omega (arith, within)) _
-    start.requires.0 (sym parsed.parse-read.ensures ∙ none ∙ ap Unread (sym number)) c.before.before.print_unread-in_default.ensures
+    start.requires.0 (sym parsed.parse-read.ensures ∙ none ∙ ap Unread (sym number)) c.print_unread-in_default.ensures
 
 is_tick-ticked-requires : tie.Need-is_tick-ticked-requires
 is_tick-ticked-requires c κs = search rules
@@ -87,18 +87,18 @@ shape_of-out c = search rules
 
 returns : tie.Need-returns
 returns c =
-    let performed = c.before.before.before.before.before.before.before in
-    let asked = performed.before.before.before.before.before.before.before in
-    let read = asked.before.before in
-    let parsed = read.before.before in
-    let found = parsed.before.before.before in
-    let start = found.before.before.before in
-    let within = (ends found).within in
-    let more = parsed.before.before.if-end-text.false in
+    let performed = c in
+    let asked = performed in
+    let read = asked in
+    let parsed = read in
+    let found = parsed in
+    let start = found in
+    let within = (span_end _ _ _ c.line_at-span.ensures (omega arith)).within in
+    let more = parsed.if-end-text.false in
     walked_form _ _ _ _ _ _ _ start.requires.1 start.requires.2 _ found.line_at-span.ensures (omega (arith, within)) _
-    (sym parsed.parse-read.ensures ∙ read.read.given.1) start.requires.0 _ _ performed.perform_told-performed.ensures
+    (sym parsed.parse-read.ensures ∙ c.in-Form.is) start.requires.0 _ _ performed.perform_told-performed.ensures
     _ asked.is_tick-ticked.ensures
-    (c.before.before.show.ensures _)
+    (c.show.ensures _)
 
 pub line_spec : {M : Type 1} → statement M
 line_spec =

@@ -1,17 +1,16 @@
 -- `script::note_for` meets its contract: a tenant is told its part, and anybody else the whole. Assumes nothing.
 use borrow.Author.Rules.{rules}
-use native.Mathlib.Omega.{arith}
 use Prim.Native.Nat.{ℕ}
-use mathlib.Core.Path.{◌≡◌, ◌∙◌}
-use mathlib.Core.Logic.{◌≢◌, ⊎_elim}
+use mathlib.Core.Path.{◌∙◌}
+use mathlib.Core.Logic.{◌≢◌}
 use Rattle.grammar.specs.declared.Audience.TheVariants.{Tenant}
 use Rattle.script.proofs.LineShown.{note_whole}
 use Rattle.script.proofs.note_for.Statement.{statement}
 use Rattle.script.proofs.note_for.Tie as tie
 
 -- whoever is left is no tenant
-others : (c : tie.In_default) (id : ℕ) → c.before.before.args.audience ≢ Tenant id
-others c id e = ⊎_elim (λ h. omega (arith, rw e at h)) (λ h. omega (arith, rw e at h)) c.in-Tenant.keys2
+others : (c : tie.In_default) (id : ℕ) → c.args.audience ≢ Tenant id
+others c = c.in_default.not-Tenant
 
 reason-reason-requires : tie.Need-reason-reason-requires
 reason-reason-requires c κs = search rules
@@ -24,16 +23,16 @@ tenant-requires c κs = search rules
 
 returns-in-Tenant : tie.Need-returns-in-Tenant
 returns-in-Tenant c t =
-    let asked = c.before.before.before.before in
-    rw c.before.before.audience.given.1 (rw (asked.reason-reason.ensures t) at (c.tenant.ensures t))
+    let asked = c in
+    rw c.in-Tenant.is (rw (asked.reason-reason.ensures t) at (c.tenant.ensures t))
 
 operator-requires : tie.Need-operator-requires
 operator-requires c κs = search rules
 
 returns : tie.Need-returns
 returns c t =
-    rw (c.before.before.reason-reason.ensures t) at c.operator.ensures
-    ∙ note_whole _ _ _ c.before.before.before.args.audience (others c.before)
+    rw (c.reason-reason.ensures t) at c.operator.ensures
+    ∙ note_whole _ _ _ c.args.audience (others c.before)
 
 pub note_for_spec : {M : Type 1} → statement M
 note_for_spec =

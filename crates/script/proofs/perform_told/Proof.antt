@@ -69,42 +69,42 @@ tick-requires c κs = search rules
 returns-in-Open : tie.Need-returns-in-Open
 unfolding is_tick
 returns-in-Open c =
-    rw c.before.before.before.before.before.before.before.before.before.call.given.1
-    (record { promised = rw c.undrawn.ensures c.before.«open».ensures; sum = λ tick. true-false tick refl })
+    rw c.in-Open.is
+    (record { promised = rw c.undrawn.ensures c.open.ensures; sum = λ tick. true-false tick refl })
 
 returns-in-Join : tie.Need-returns-in-Join
 unfolding is_tick
 returns-in-Join c =
-    rw c.before.before.before.before.before.before.before.before.before.call-in-Join-1.given.1
-    (record { promised = rw c.undrawn-in-Join.ensures c.before.join.ensures; sum = λ tick. true-false tick refl })
+    rw c.in-Join.is
+    (record { promised = rw c.undrawn-in-Join.ensures c.join.ensures; sum = λ tick. true-false tick refl })
 
 returns-in-Change : tie.Need-returns-in-Change
 unfolding is_tick
 returns-in-Change c =
-    rw c.before.before.before.before.before.before.before.before.before.call-in-Change-1.given.1
-    (record { promised = rw c.undrawn-in-Change.ensures c.before.change.ensures; sum = λ tick. true-false tick refl })
+    rw c.in-Change.is
+    (record { promised = rw c.undrawn-in-Change.ensures c.change.ensures; sum = λ tick. true-false tick refl })
 
 returns-in-Leave : tie.Need-returns-in-Leave
 unfolding is_tick
 returns-in-Leave c =
-    rw c.before.before.before.before.before.before.before.before.before.call-in-Leave-1.given.1
-    (record { promised = rw c.undrawn-in-Leave.ensures c.before.leave.ensures; sum = λ tick. true-false tick refl })
+    rw c.in-Leave.is
+    (record { promised = rw c.undrawn-in-Leave.ensures c.leave.ensures; sum = λ tick. true-false tick refl })
 
 returns-in-Load : tie.Need-returns-in-Load
 unfolding is_tick
 returns-in-Load c =
-    rw c.before.before.before.before.before.before.before.before.before.call-in-Load-1.given.1
-    (record { promised = rw c.undrawn-in-Load.ensures c.before.load.ensures; sum = λ tick. true-false tick refl })
+    rw c.in-Load.is
+    (record { promised = rw c.undrawn-in-Load.ensures c.load.ensures; sum = λ tick. true-false tick refl })
 
 returns-in-Arrive : tie.Need-returns-in-Arrive
 unfolding is_tick
 returns-in-Arrive c =
-    rw c.before.before.before.before.before.before.before.before.before.call-in-Arrive-1.given.1
-    (record { promised = rw c.undrawn-in-Arrive.ensures c.before.arrive.ensures; sum = λ tick. true-false tick refl })
+    rw c.in-Arrive.is
+    (record { promised = rw c.undrawn-in-Arrive.ensures c.arrive.ensures; sum = λ tick. true-false tick refl })
 
 returns-in-Tick : tie.Need-returns-in-Tick
 returns-in-Tick c =
-    rw c.before.before.before.before.before.before.before.enum_told.given.1
+    rw c.in-Tick.is
     (record { promised = c.tick.ensures.0; sum = λ tick. c.tick.ensures.1.sum })
 
 pub perform_told_spec : {M : Type 1} → statement M

@@ -47,25 +47,25 @@ going c = on c.before.before.before.before.before.args.text.now _ _ _ c.before.g
 line-progress-requires : tie.Need-line-progress-requires invariant-loop-audience decreases-loop-audience
 line-progress-requires c κs =
     let test = c.before.before.before.before.before.before.before in
-    (test.before.before.loop-audience.invariant.1.valid, (going test).0, (going test).1)
+    (test.before.before.loop-audience.invariant.1.valid, (going c.before.before.before.before.before.before.before).0, (going c.before.before.before.before.before.before.before).1)
 
 loop-audience-smaller : tie.Need-loop-audience-smaller invariant-loop-audience decreases-loop-audience
 loop-audience-smaller c =
     let line = c.before.before.before.line-progress.ensures in
     let test = c.before.before.before.before.before.before.before.before.before.before.before in
-    omega (arith, (going test).0, line.1)
+    omega (arith, (going c.before.before.before.before.before.before.before.before.before.before.before).0, line.1)
 
 loop-audience-preserved : tie.Need-loop-audience-preserved invariant-loop-audience decreases-loop-audience
 loop-audience-preserved c =
     let line = c.before.before.before.line-progress.ensures in
-    let same = c.before.before.before.line-progress.auto.1.1.1.0 in
+    let same = c.before.before.before.line-progress.auto.out in
     let test = c.before.before.before.before.before.before.before.before.before.before.before in
     let before = test.before.before.loop-audience.invariant in (
       search rules,
       walked_more before.1 line.0,
       λ still. absurd (omega (arith, before.1.forth, line.1)),
-      λ little. absurd (omega (arith, (going test).1, same)),
-      λ past. absurd (omega (arith, (going test).0, before.1.forth)),
+      λ little. absurd (omega (arith, (going c.before.before.before.before.before.before.before.before.before.before.before).1, same)),
+      λ past. absurd (omega (arith, (going c.before.before.before.before.before.before.before.before.before.before.before).0, before.1.forth)),
     )
 
 shape_of-out : tie.Need-shape_of-out invariant-loop-audience decreases-loop-audience

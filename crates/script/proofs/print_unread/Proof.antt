@@ -20,13 +20,13 @@ shape_of-out : tie.Need-shape_of-out
 shape_of-out c = search rules
 
 returns-in-Caller : tie.Need-returns-in-Caller
-returns-in-Caller c = rw c.before.before.before.before.enum_told.given.1 c.before.before.print_refused.ensures
+returns-in-Caller c = rw c.in-Caller.is c.print_refused.ensures
 
 returns-in-Operator : tie.Need-returns-in-Operator
-returns-in-Operator c = rw c.enum_told-in-Operator-1.given.1 (nothing_written _ _)
+returns-in-Operator c = rw c.in-Operator.is (nothing_written _ _)
 
 returns-in-Tenant : tie.Need-returns-in-Tenant
-returns-in-Tenant c = rw c.enum_told-in-Tenant-1.given.1 (nothing_written _ _)
+returns-in-Tenant c = rw c.in-Tenant.is (nothing_written _ _)
 
 pub print_unread_spec : {M : Type 1} → statement M
 print_unread_spec =
