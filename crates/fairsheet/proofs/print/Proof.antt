@@ -16,7 +16,7 @@ use Rattle.fairsheet.proofs.print.Statement.{statement}
 use Rattle.fairsheet.proofs.print.Tie as tie
 
 -- where the test has passed there is room for every line
-room : (c : tie.Else-out-lt-SHEET_ROOM) → sheet_room ≤ length c.before.before.before.args.out.now
+room : (c : tie.Else-out-lt-SHEET_ROOM) → sheet_room ≤ length c.args.out.now
 unfolding ids
 room c = omega arith
 
@@ -33,9 +33,9 @@ shape_of-out-then-text-gt-TEXT_LIMIT c = search rules
 returns-then-text-gt-TEXT_LIMIT : tie.Need-returns-then-text-gt-TEXT_LIMIT
 unfolding text_limit
 returns-then-text-gt-TEXT_LIMIT c =
-    let call = c.before.before in
-    let test = call.before.before in
-    let space = room test.before in
+    let call = c in
+    let test = call in
+    let space = room c.before.before.before.before.before in
     told-long _ _ space (omega (arith, test.if-text-gt-TEXT_LIMIT.true)) (line_written space call.print_refused.ensures)
 
 slice_bounds-read-end : tie.Need-slice_bounds-read-end
@@ -56,11 +56,11 @@ shape_of-out-then-reading-ne-FITS c = search rules
 returns-then-reading-ne-FITS : tie.Need-returns-then-reading-ne-FITS
 unfolding text_limit
 returns-then-reading-ne-FITS c =
-    let call = c.before.before in
-    let test = call.before.before in
-    let given = test.before.before.before.before in
-    let short = given.before.before.before in
-    let space = room short.before in
+    let call = c in
+    let test = call in
+    let given = test in
+    let short = given in
+    let space = room c.before.before.before.before.before.before.before.before.before.before.before.before in
     told_read _ _ space (omega (arith, short.if-text-gt-TEXT_LIMIT.false))
     (appended_as (sym (read_refused _ given.read-reading.ensures test.if-reading-ne-FITS.true))
     (line_written space call.print_refused-then-reading-ne-FITS.ensures))
@@ -74,12 +74,12 @@ shape_of-out-then-count-gt-ROWS c = search rules
 returns-then-count-gt-ROWS : tie.Need-returns-then-count-gt-ROWS
 unfolding text_limit ids
 returns-then-count-gt-ROWS c =
-    let call = c.before.before in
-    let many = call.before.before in
-    let test = many.before in
-    let given = test.before.before.before.before in
-    let short = given.before.before.before in
-    let space = room short.before in
+    let call = c in
+    let many = call in
+    let test = many in
+    let given = test in
+    let short = given in
+    let space = room c.before.before.before.before.before.before.before.before.before.before.before.before.before in
     told_read _ _ space (omega (arith, short.if-text-gt-TEXT_LIMIT.false))
     (appended_as (sym (rows_many (read_rows _ given.read-reading.ensures test.if-reading-ne-FITS.false) (omega (arith, many.if-count-gt-ROWS.true))))
     (line_written space call.print_refused-then-count-gt-ROWS.ensures))
@@ -106,12 +106,12 @@ shape_of-out c = search rules
 returns : tie.Need-returns
 unfolding text_limit
 returns c =
-    let call = c.before.before in
-    let few = call.before.before.before.before in
-    let test = few.before in
-    let given = test.before.before.before.before in
-    let short = given.before.before.before in
-    told_read _ _ (room short.before) (omega (arith, short.if-text-gt-TEXT_LIMIT.false))
+    let call = c in
+    let few = call in
+    let test = few in
+    let given = test in
+    let short = given in
+    told_read _ _ (room c.before.before.before.before.before.before.before.before.before.before.before.before.before.before.before) (omega (arith, short.if-text-gt-TEXT_LIMIT.false))
     (appended_as (sym (rows_few (read_rows _ given.read-reading.ensures test.if-reading-ne-FITS.false) (search rules) (search rules)))
     call.print_rates.ensures)
 

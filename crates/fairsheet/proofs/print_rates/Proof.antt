@@ -3,7 +3,6 @@
 use borrow.Author.Rules.{rules}
 use native.Mathlib.Omega.{arith}
 use mathlib.Core.Path.{refl, sym}
-use mathlib.Core.Logic.{⊎_elim}
 use Rattle.definitions.specs.Sizes.{ids}
 use Rattle.printer.proofs.Appending.{appended_as}
 use Rattle.maxmin.proofs.RatesGiven.{accepted_few}
@@ -30,13 +29,13 @@ shape_of-out-in_default c = search rules
 returns-in_default : tie.Need-returns-in_default
 unfolding ids
 returns-in_default c =
-    let call = c.before.before in
-    let match = call.before.before in
-    let given = match.before.before in
-    let start = given.before.before.before.before.before in
+    let call = c in
+    let match = call in
+    let given = match in
+    let start = given in
     appended_as
     (sym (shared_refused _ _ _ refl given.rates-answer.ensures
-    (λ e. ⊎_elim (λ h. omega (arith, rw e at h)) (λ h. omega (arith, rw e at h)) match.in-Accepted.keys2)))
+    c.in_default.not-Accepted))
     (line_written start.requires call.print_refused.ensures)
 
 slice_bounds-put_rates-end : tie.Need-slice_bounds-put_rates-end
@@ -45,12 +44,12 @@ slice_bounds-put_rates-end c = search rules
 put_rates-requires : tie.Need-put_rates-requires
 unfolding ids
 put_rates-requires c κs =
-    let told = c.before.before in
-    let given = told.before.before.before in
-    let yes = shared_accepted _ _ _ refl given.rates-answer.ensures told.enum_told.given.1 in
+    let told = c in
+    let given = told in
+    let yes = shared_accepted _ _ _ refl given.rates-answer.ensures c.in-Accepted.is in
     let few = accepted_few _ _ _ yes in
     let same = accepted-listed _ _ _ yes in
-    (omega (arith, few, same), omega (arith, few, same, given.rates-answer.auto.1.1.1.0), search rules)
+    (omega (arith, few, same), omega (arith, few, same, given.rates-answer.auto.rates), search rules)
 
 shape_of-out : tie.Need-shape_of-out
 shape_of-out c = search rules
@@ -58,10 +57,10 @@ shape_of-out c = search rules
 returns : tie.Need-returns
 unfolding ids
 returns c =
-    let call = c.before.before in
-    let told = call.before.before.before in
-    let given = told.before.before.before in
-    appended_as (sym (shared_lines _ _ _ refl given.rates-answer.ensures told.enum_told.given.1)) call.put_rates.ensures
+    let call = c in
+    let told = call in
+    let given = told in
+    appended_as (sym (shared_lines _ _ _ refl given.rates-answer.ensures c.in-Accepted.is)) call.put_rates.ensures
 
 pub print_rates_spec : {M : Type 1} → statement M
 print_rates_spec =

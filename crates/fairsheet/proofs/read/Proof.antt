@@ -12,15 +12,15 @@ line_at-span-requires : tie.Need-line_at-span-requires
 line_at-span-requires c κs = search rules
 
 slice_bounds-threshold-end : tie.Need-slice_bounds-threshold-end
-slice_bounds-threshold-end c = sym (length-take-le _ _ (span_within _ _ _ c.before.line_at-span.ensures (omega arith)))
+slice_bounds-threshold-end c = sym (length-take-le _ _ (span_within _ _ _ c.line_at-span.ensures (omega arith)))
 
 threshold-first-requires : tie.Need-threshold-first-requires
 threshold-first-requires c κs = search rules
 
 returns-then-first-eq-NO_FORM : tie.Need-returns-then-first-eq-NO_FORM
 returns-then-first-eq-NO_FORM c =
-    let read = c.before.before in
-    sheet_unformed _ _ read.before.before.line_at-span.ensures _ read.threshold-first.ensures c.if-first-eq-NO_FORM.true
+    let read = c in
+    sheet_unformed _ _ read.line_at-span.ensures _ read.threshold-first.ensures c.if-first-eq-NO_FORM.true
 
 read_demands-requires : tie.Need-read_demands-requires
 read_demands-requires c κs = search rules
@@ -33,10 +33,10 @@ shape_of-demands c = search rules
 
 returns : tie.Need-returns
 returns c =
-    let call = c.before.before.before.before in
-    let test = call.before.before.before in
-    let read = test.before.before in
-    sheet_read _ _ read.before.before.line_at-span.ensures _ read.threshold-first.ensures test.if-first-eq-NO_FORM.false
+    let call = c in
+    let test = call in
+    let read = test in
+    sheet_read _ _ read.line_at-span.ensures _ read.threshold-first.ensures test.if-first-eq-NO_FORM.false
     call.read_demands.ensures
 
 pub read_spec : {M : Type 1} → statement M

@@ -20,9 +20,9 @@ decreases-loop-at text from first listed₀ demands₀ refused₀ count₀ at₀
 
 -- the line that is read, and the place behind it
 passed : (c : tie.After-line_at-span invariant-loop-at decreases-loop-at)
-    → let loop = c.before.before.loop-at in
-    Passed c.before.before.before.before.before.before.args.text.now loop.at c.line_at-span.result.next
-passed c = span_passed _ _ _ c.line_at-span.ensures c.before.loop-at-test.true
+    → let loop = c.loop-at in
+    Passed c.args.text.now loop.at c.line_at-span.result.next
+passed c = span_passed _ _ _ c.line_at-span.ensures c.loop-at-test.true
 
 loop-at-init : tie.Need-loop-at-init invariant-loop-at decreases-loop-at
 loop-at-init c = (refl, refl, rows_none _ _ _ _ _)
@@ -33,26 +33,26 @@ line_at-span-requires c κs = search rules
 slice_bounds-demand-count : tie.Need-slice_bounds-demand-count invariant-loop-at decreases-loop-at
 slice_bounds-demand-count c = omega (arith, (passed c).forth)
 
-part-demand-start : tie.Need-slice-bounds-demand-start invariant-loop-at decreases-loop-at
+part-demand-start : tie.Need-slice_bounds-demand-start invariant-loop-at decreases-loop-at
 part-demand-start c = omega (arith, (passed c).forth)
 
-part-demand-end : tie.Need-slice-bounds-demand-end invariant-loop-at decreases-loop-at
+part-demand-end : tie.Need-slice_bounds-demand-end invariant-loop-at decreases-loop-at
 part-demand-end c = omega (arith, (passed c).within)
 
 demand-row-requires : tie.Need-demand-row-requires invariant-loop-at decreases-loop-at
 demand-row-requires c κs = search rules
 
 shape_of-listed-then-row-eq-NO_FORM : tie.Need-shape_of-listed-then-row-eq-NO_FORM invariant-loop-at decreases-loop-at
-shape_of-listed-then-row-eq-NO_FORM c = c.before.before.before.before.before.before.loop-at.invariant.0
+shape_of-listed-then-row-eq-NO_FORM c = c.loop-at.invariant.0
 
 shape_of-demands-then-row-eq-NO_FORM : tie.Need-shape_of-demands-then-row-eq-NO_FORM invariant-loop-at decreases-loop-at
-shape_of-demands-then-row-eq-NO_FORM c = c.before.before.before.before.before.before.loop-at.invariant.1
+shape_of-demands-then-row-eq-NO_FORM c = c.loop-at.invariant.1
 
 returns-then-row-eq-NO_FORM : tie.Need-returns-then-row-eq-NO_FORM invariant-loop-at decreases-loop-at
 returns-then-row-eq-NO_FORM c =
-    let read = c.before.before in
-    let found = read.before.before in
-    rows_unformed found.before.before.loop-at.invariant.2 (passed found) read.demand-row.ensures c.if-row-eq-NO_FORM.true
+    let read = c in
+    let found = read in
+    rows_unformed found.loop-at.invariant.2 (passed c.before.before.before.before) read.demand-row.ensures c.if-row-eq-NO_FORM.true
 
 judged-refused-requires : tie.Need-judged-refused-requires invariant-loop-at decreases-loop-at
 judged-refused-requires c κs = search rules
@@ -68,31 +68,31 @@ overflow_add-count c = search rules
 
 loop-at-smaller : tie.Need-loop-at-smaller invariant-loop-at decreases-loop-at
 loop-at-smaller c =
-    let found = c.before.before.before.before.before.before.before.before.before.before.before.before.before in
-    omega (arith, (passed found).forth, (passed found).within)
+    let found = c in
+    omega (arith, (passed c.before.before.before.before.before.before.before.before.before.before.before.before.before).forth, (passed c.before.before.before.before.before.before.before.before.before.before.before.before.before).within)
 
 loop-at-preserved : tie.Need-loop-at-preserved invariant-loop-at decreases-loop-at
 loop-at-preserved c =
-    let second = c.before.before in
-    let first = second.before.before.before.before in
-    let judged = first.before.before in
-    let read = judged.before.before.before in
-    let found = read.before.before in
-    let inv = found.before.before.loop-at.invariant in (
-      first.keep.auto.0 ∙ inv.0,
-      second.keep-in-loop-at.auto.0 ∙ inv.1,
-      rows_more inv.2 (passed found) read.demand-row.ensures judged.before.if-row-eq-NO_FORM.false judged.judged-refused.ensures
+    let second = c in
+    let first = second in
+    let judged = first in
+    let read = judged in
+    let found = read in
+    let inv = found.loop-at.invariant in (
+      first.keep.auto.column ∙ inv.0,
+      second.keep-in-loop-at.auto.column ∙ inv.1,
+      rows_more inv.2 (passed c.before.before.before.before.before.before.before.before.before.before.before.before.before) read.demand-row.ensures judged.if-row-eq-NO_FORM.false judged.judged-refused.ensures
           first.keep.ensures second.keep-in-loop-at.ensures,
     )
 
 shape_of-listed : tie.Need-shape_of-listed invariant-loop-at decreases-loop-at
-shape_of-listed c = c.before.loop-at.invariant.0
+shape_of-listed c = c.loop-at.invariant.0
 
 shape_of-demands : tie.Need-shape_of-demands invariant-loop-at decreases-loop-at
-shape_of-demands c = c.before.loop-at.invariant.1
+shape_of-demands c = c.loop-at.invariant.1
 
 returns : tie.Need-returns invariant-loop-at decreases-loop-at
-returns c = rows_done c.before.loop-at.invariant.2 c.loop-at-test.false
+returns c = rows_done c.loop-at.invariant.2 c.loop-at-test.false
 
 pub read_demands_spec : {M : Type 1} → statement M
 read_demands_spec =
