@@ -17,76 +17,76 @@ use Rattle.carried.proofs.Carrying.{carried_none, carried_long}
 use Rattle.carried.proofs.carry_out.Statement.{statement}
 use Rattle.carried.proofs.carry_out.Tie as tie
 
-abbrev invariant-loop : tie.invariant-loop
-invariant-loop text out₀ terms₀ stocks₀ handles₀ lengths₀ links₀ counts₀ control₀ at₀ out terms stocks handles lengths links counts control at =
+abbrev invariant-loop-at : tie.invariant-loop-at
+invariant-loop-at text out₀ terms₀ stocks₀ handles₀ lengths₀ links₀ counts₀ control₀ at₀ out terms stocks handles lengths links counts control at =
     (length out ≡ length out₀) × (line_room ≤ length out) × (length text ≤ text_limit)
     × (bytes : List ℕ) × Reached Caller text bytes control (tables terms stocks handles lengths links counts) at
 
-abbrev decreases-loop : tie.decreases-loop
-decreases-loop text out₀ terms₀ stocks₀ handles₀ lengths₀ links₀ counts₀ control₀ at₀ out terms stocks handles lengths links counts control at =
+abbrev decreases-loop-at : tie.decreases-loop-at
+decreases-loop-at text out₀ terms₀ stocks₀ handles₀ lengths₀ links₀ counts₀ control₀ at₀ out terms stocks handles lengths links counts control at =
     length text - at
 
-start-requires : tie.Need-start-requires invariant-loop decreases-loop
-start-requires c κs = search rules
+start-first-requires : tie.Need-start-first-requires invariant-loop-at decreases-loop-at
+start-first-requires c κs = search rules
 
-has-room-requires : tie.Need-has-room-requires invariant-loop decreases-loop
-has-room-requires c κs = search rules
+has_room-requires : tie.Need-has_room-requires invariant-loop-at decreases-loop-at
+has_room-requires c κs = search rules
 
-same_length : tie.Need-same-length invariant-loop decreases-loop
-same_length c = search rules
+shape_of-out-then-not-has_room : tie.Need-shape_of-out-then-not-has_room invariant-loop-at decreases-loop-at
+shape_of-out-then-not-has_room c = search rules
 
-returns : tie.Need-returns invariant-loop decreases-loop
-returns c = carried_none c.before.before.before.before.start.ensures _ c.before.has_room.ensures c.if1.true
+returns-then-not-has_room : tie.Need-returns-then-not-has_room invariant-loop-at decreases-loop-at
+returns-then-not-has_room c = carried_none c.before.before.before.before.start-first.ensures _ c.before.has_room.ensures c.if-not-has_room.true-raw
 
-same_length_2 : tie.Need-same-length-2 invariant-loop decreases-loop
-same_length_2 c = search rules
+shape_of-out-then-text-gt-TEXT_LIMIT : tie.Need-shape_of-out-then-text-gt-TEXT_LIMIT invariant-loop-at decreases-loop-at
+shape_of-out-then-text-gt-TEXT_LIMIT c = search rules
 
-returns_2 : tie.Need-returns-2 invariant-loop decreases-loop
+returns-then-text-gt-TEXT_LIMIT : tie.Need-returns-then-text-gt-TEXT_LIMIT invariant-loop-at decreases-loop-at
 unfolding text_limit
-returns_2 c = carried_long c.before.before.before.before.before.start.ensures _ c.if2.true
+returns-then-text-gt-TEXT_LIMIT c = carried_long c.before.before.before.before.before.start-first.ensures _ c.if-text-gt-TEXT_LIMIT.true
 
-loop-holds : tie.Need-loop-init invariant-loop decreases-loop
+loop-at-init : tie.Need-loop-at-init invariant-loop-at decreases-loop-at
 unfolding text_limit
-loop-holds c =
+loop-at-init c =
     let tested = c.before.before in
-    let start = c.before.before.before.before.before.before.start in
-    let room = roomy start.new.1.0 0 tested.before.has_room.ensures tested.if1.false in
-    (refl, room, c.before.if2.false, _, reached_first start.ensures room _)
+    let start = c.before.before.before.before.before.before.start-first in
+    let room = roomy start.new.out 0 tested.before.has_room.ensures tested.if-not-has_room.false-raw in
+    (refl, room, c.before.if-text-gt-TEXT_LIMIT.false, _, reached_first start.ensures room _)
 
-piece-requires : tie.Need-piece-requires invariant-loop decreases-loop
-piece-requires c κs = c.before.before.before.before.before.before.before.before.loop.invariant.4.valid
+piece-piece-requires : tie.Need-piece-piece-requires invariant-loop-at decreases-loop-at
+piece-piece-requires c κs = c.before.before.before.before.before.before.before.before.loop-at.invariant.4.valid
 
-loop-less : tie.Need-loop-smaller invariant-loop decreases-loop
-loop-less c =
+loop-at-smaller : tie.Need-loop-at-smaller invariant-loop-at decreases-loop-at
+loop-at-smaller c =
     let call = c.before.before.before in
     let inside = call.before.before.before.before.before.before.before.before in
-    let inv = inside.before.loop.invariant in
-    let same = call.piece.auto.1.1.1.0 in
-    omega (arith, inside.loop-test.true, call.piece.ensures.onward inside.loop-test.true (omega (arith, same, inv.1)))
+    let inv = inside.before.loop-at.invariant in
+    let same = call.piece-piece.auto.out in
+    omega (arith, inside.loop-at-test.true, call.piece-piece.ensures.onward inside.loop-at-test.true (omega (arith, same, inv.1)))
 
-loop-again : tie.Need-loop-preserved invariant-loop decreases-loop
-loop-again c =
+loop-at-preserved : tie.Need-loop-at-preserved invariant-loop-at decreases-loop-at
+loop-at-preserved c =
     let call = c.before.before.before in
     let inside = call.before.before.before.before.before.before.before.before in
-    let inv = inside.before.loop.invariant in
-    let same = call.piece.auto.1.1.1.0 in
-    (same ∙ inv.0, omega (arith, same, inv.1), inv.2, _, reached_more inv.4 call.piece.ensures inside.loop-test.true)
+    let inv = inside.before.loop-at.invariant in
+    let same = call.piece-piece.auto.out in
+    (same ∙ inv.0, omega (arith, same, inv.1), inv.2, _, reached_more inv.4 call.piece-piece.ensures inside.loop-at-test.true)
 
-same-length-3 : tie.Need-same-length-3 invariant-loop decreases-loop
-same-length-3 c = search rules
+shape_of-out : tie.Need-shape_of-out invariant-loop-at decreases-loop-at
+shape_of-out c = search rules
 
-returns-3 : tie.Need-returns-3 invariant-loop decreases-loop
-returns-3 c =
-    let reached = c.before.loop.invariant.4 in
+returns : tie.Need-returns invariant-loop-at decreases-loop-at
+returns c =
+    let reached = c.before.loop-at.invariant.4 in
     record {
       valid = reached.valid;
-      left = λ room short. reached_left reached short c.loop-test.false;
-      long = λ room over. absurd (omega (arith, c.before.loop.invariant.2));
+      left = λ room short. reached_left reached short c.loop-at-test.false;
+      long = λ room over. absurd (omega (arith, c.before.loop-at.invariant.2));
       fits = omega arith;
     }
 
-pub carry-out-spec : {M : Type 1} → statement M
-carry-out-spec =
+pub carry_out_spec : {M : Type 1} → statement M
+carry_out_spec =
     tie.close
-    (tie.spec invariant-loop decreases-loop start-requires has-room-requires same_length returns same_length_2 returns_2 loop-holds piece-requires
-    loop-less loop-again same-length-3 returns-3)
+    (tie.spec invariant-loop-at decreases-loop-at start-first-requires has_room-requires shape_of-out-then-not-has_room returns-then-not-has_room shape_of-out-then-text-gt-TEXT_LIMIT returns-then-text-gt-TEXT_LIMIT loop-at-init piece-piece-requires
+    loop-at-smaller loop-at-preserved shape_of-out returns)

@@ -15,5 +15,5 @@ returns : tie.Need-returns
 unfolding begun_on
 returns c = let shut = c.unopened.ensures in record { run = λ t. rw ((shut t).0, c.before.new.ensures); valid = λ t. (shut t).1 }
 
-pub begin-spec : {M : Type 1} → statement M
-begin-spec = tie.close (tie.spec new-requires unopened-requires returns)
+pub begin_spec : {M : Type 1} → statement M
+begin_spec = tie.close (tie.spec new-requires unopened-requires returns)

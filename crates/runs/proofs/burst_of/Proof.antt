@@ -4,16 +4,16 @@ use Rattle.runs.specs.Calls.{burst_of}
 use Rattle.runs.proofs.burst_of.Statement.{statement}
 use Rattle.runs.proofs.burst_of.Tie as tie
 
-by-upper-requires : tie.Need-by-upper-requires
-by-upper-requires c κs = search rules
+by_upper-requires : tie.Need-by_upper-requires
+by_upper-requires c κs = search rules
 
-returns : tie.Need-returns
+returns-then-kind-eq-INDIFFERENT : tie.Need-returns-then-kind-eq-INDIFFERENT
 unfolding burst_of
-returns c = rw (c.by-upper.ensures, eq-eqb _ _ c.before.if1.true)
+returns-then-kind-eq-INDIFFERENT c = rw (c.by_upper.ensures, eq-eqb _ _ c.before.if-kind-eq-INDIFFERENT.true)
 
-returns_2 : tie.Need-returns-2
+returns-else-kind-eq-INDIFFERENT : tie.Need-returns-else-kind-eq-INDIFFERENT
 unfolding burst_of
-returns_2 c = rw (ne_eqb _ _ c.if1.false)
+returns-else-kind-eq-INDIFFERENT c = rw (ne_eqb _ _ c.if-kind-eq-INDIFFERENT.false)
 
-pub burst-of-spec : {M : Type 1} → statement M
-burst-of-spec = tie.close (tie.spec by-upper-requires returns returns_2)
+pub burst_of_spec : {M : Type 1} → statement M
+burst_of_spec = tie.close (tie.spec by_upper-requires returns-then-kind-eq-INDIFFERENT returns-else-kind-eq-INDIFFERENT)

@@ -4,13 +4,13 @@ use Rattle.runs.specs.Calls.{by_upper}
 use Rattle.runs.proofs.by_upper.Statement.{statement}
 use Rattle.runs.proofs.by_upper.Tie as tie
 
-returns : tie.Need-returns
+returns-then-v-eq1 : tie.Need-returns-then-v-eq1
 unfolding by_upper
-returns c = rw (eq-eqb _ _ c.if1.true)
+returns-then-v-eq1 c = rw (eq-eqb _ _ c.if-v-eq1.true)
 
-returns_2 : tie.Need-returns-2
+returns-else-v-eq1 : tie.Need-returns-else-v-eq1
 unfolding by_upper
-returns_2 c = rw (ne_eqb _ _ c.if1.false)
+returns-else-v-eq1 c = rw (ne_eqb _ _ c.if-v-eq1.false)
 
-pub by-upper-spec : {M : Type 1} → statement M
-by-upper-spec = tie.close (tie.spec returns returns_2)
+pub by_upper_spec : {M : Type 1} → statement M
+by_upper_spec = tie.close (tie.spec returns-then-v-eq1 returns-else-v-eq1)

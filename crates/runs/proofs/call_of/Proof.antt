@@ -5,90 +5,90 @@ use Rattle.runs.specs.Calls.{call_at}
 use Rattle.runs.proofs.call_of.Statement.{statement}
 use Rattle.runs.proofs.call_of.Tie as tie
 
-mul-seed : tie.Need-overflow-mul-seed
-mul-seed c = search rules
+overflow_mul-seed : tie.Need-overflow_mul-seed
+overflow_mul-seed c = search rules
 
-by-upper-requires : tie.Need-by-upper-requires
-by-upper-requires c κs = search rules
+by_upper-requires : tie.Need-by_upper-requires
+by_upper-requires c κs = search rules
+
+returns-then-k-eq0 : tie.Need-returns-then-k-eq0
+unfolding call_at
+returns-then-k-eq0 c = rw (c.by_upper.ensures, eq-eqb _ _ c.if-k-eq0.true)
+
+id_of-id-requires : tie.Need-id_of-id-requires
+id_of-id-requires c κs = search rules
+
+rate_of-rate-requires : tie.Need-rate_of-rate-requires
+rate_of-rate-requires c κs = search rules
+
+burst_of-burst-requires : tie.Need-burst_of-burst-requires
+burst_of-burst-requires c κs = search rules
+
+returns-then-k-le640 : tie.Need-returns-then-k-le640
+unfolding call_at
+returns-then-k-le640 c =
+    let b = c in
+    rw (
+      b.burst_of-burst.ensures,
+      b.rate_of-rate.ensures,
+      b.id_of-id.ensures,
+      ne_eqb _ _ b.if-k-eq0.false,
+      le-leb _ _ c.if-k-le640.true,
+    )
+
+returns-then-k-le720 : tie.Need-returns-then-k-le720
+unfolding call_at
+returns-then-k-le720 c =
+    let b = c in
+    rw (
+      b.burst_of-burst.ensures,
+      b.rate_of-rate.ensures,
+      b.id_of-id.ensures,
+      ne_eqb _ _ b.if-k-eq0.false,
+      lt-leb _ _ c.if-k-le640.false,
+      le-leb _ _ c.if-k-le720.true,
+    )
+
+returns-then-k-le740 : tie.Need-returns-then-k-le740
+unfolding call_at
+returns-then-k-le740 c =
+    let b = c in
+    rw (
+      b.id_of-id.ensures,
+      ne_eqb _ _ b.if-k-eq0.false,
+      lt-leb _ _ c.if-k-le640.false,
+      lt-leb _ _ c.if-k-le720.false,
+      le-leb _ _ c.if-k-le740.true,
+    )
+
+traffic_of-requires : tie.Need-traffic_of-requires
+traffic_of-requires c κs = search rules
 
 returns : tie.Need-returns
 unfolding call_at
-returns c = rw (c.by-upper.ensures, eq-eqb _ _ c.before.if1.true)
-
-id-of-requires : tie.Need-id-of-requires
-id-of-requires c κs = search rules
-
-rate-of-requires : tie.Need-rate-of-requires
-rate-of-requires c κs = search rules
-
-burst-of-requires : tie.Need-burst-of-requires
-burst-of-requires c κs = search rules
-
-returns_2 : tie.Need-returns-2
-unfolding call_at
-returns_2 c =
-    let b = c.before in
+returns c =
+    let b = c in
     rw (
-      b.burst-of.ensures,
-      b.before.rate-of.ensures,
-      b.before.before.id-of.ensures,
-      ne_eqb _ _ b.before.before.before.if1.false,
-      le-leb _ _ c.if2.true,
+      c.traffic_of.ensures,
+      b.id_of-id.ensures,
+      ne_eqb _ _ b.if-k-eq0.false,
+      lt-leb _ _ c.if-k-le640.false,
+      lt-leb _ _ c.if-k-le720.false,
+      lt-leb _ _ c.if-k-le740.false,
     )
 
-returns-3 : tie.Need-returns-3
-unfolding call_at
-returns-3 c =
-    let b = c.before.before in
-    rw (
-      b.burst-of.ensures,
-      b.before.rate-of.ensures,
-      b.before.before.id-of.ensures,
-      ne_eqb _ _ b.before.before.before.if1.false,
-      lt-leb _ _ c.before.if2.false,
-      le-leb _ _ c.if3.true,
-    )
-
-returns-4 : tie.Need-returns-4
-unfolding call_at
-returns-4 c =
-    let b = c.before.before.before in
-    rw (
-      b.before.before.id-of.ensures,
-      ne_eqb _ _ b.before.before.before.if1.false,
-      lt-leb _ _ c.before.before.if2.false,
-      lt-leb _ _ c.before.if3.false,
-      le-leb _ _ c.if4.true,
-    )
-
-traffic-of-requires : tie.Need-traffic-of-requires
-traffic-of-requires c κs = search rules
-
-returns-5 : tie.Need-returns-5
-unfolding call_at
-returns-5 c =
-    let b = c.before.before.before.before in
-    rw (
-      c.traffic-of.ensures,
-      b.before.before.id-of.ensures,
-      ne_eqb _ _ b.before.before.before.if1.false,
-      lt-leb _ _ c.before.before.before.if2.false,
-      lt-leb _ _ c.before.before.if3.false,
-      lt-leb _ _ c.before.if4.false,
-    )
-
-pub call-of-spec : {M : Type 1} → statement M
-call-of-spec =
+pub call_of_spec : {M : Type 1} → statement M
+call_of_spec =
     tie.close
     (tie.spec
-    mul-seed
-    by-upper-requires
-    returns
-    id-of-requires
-    rate-of-requires
-    burst-of-requires
-    returns_2
-    returns-3
-    returns-4
-    traffic-of-requires
-    returns-5)
+    overflow_mul-seed
+    by_upper-requires
+    returns-then-k-eq0
+    id_of-id-requires
+    rate_of-rate-requires
+    burst_of-burst-requires
+    returns-then-k-le640
+    returns-then-k-le720
+    returns-then-k-le740
+    traffic_of-requires
+    returns)

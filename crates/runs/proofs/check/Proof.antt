@@ -4,49 +4,49 @@ use Rattle.runs.specs.Check.{mixed, words, check_with}
 use Rattle.runs.proofs.check.Statement.{statement}
 use Rattle.runs.proofs.check.Tie as tie
 
-enum_told : tie.Need-enum-told
-enum_told c = search rules
+enum_told-1 : tie.Need-enum_told-1
+enum_told-1 c = search rules
 
 mix-requires : tie.Need-mix-requires
 mix-requires c κs = search rules
 
-enum-known-answer : tie.Need-enum-known-answer
-enum-known-answer c = search rules
+enum_known-answer : tie.Need-enum_known-answer
+enum_known-answer c = search rules
 
-mix-requires-2 : tie.Need-mix-requires-2
-mix-requires-2 c κs = search rules
+mix-requires-in-Refused : tie.Need-mix-requires-in-Refused
+mix-requires-in-Refused c κs = search rules
 
-mix-requires-3 : tie.Need-mix-requires-3
-mix-requires-3 c κs = search rules
+mix-requires-in-Refused-2 : tie.Need-mix-requires-in-Refused-2
+mix-requires-in-Refused-2 c κs = search rules
 
-enum-known-answer-2 : tie.Need-enum-known-answer-2
-enum-known-answer-2 c = search rules
+enum_known-answer-in-Slot-1 : tie.Need-enum_known-answer-in-Slot-1
+enum_known-answer-in-Slot-1 c = search rules
 
-check-slot-requires : tie.Need-check-slot-requires
-check-slot-requires c κs = search rules
+check_slot-requires : tie.Need-check_slot-requires
+check_slot-requires c κs = search rules
 
-returns : tie.Need-returns
+returns-in-Accepted : tie.Need-returns-in-Accepted
 unfolding check_with words mixed
-returns c = rw c.before.enum_told.given.1 c.mix.ensures
+returns-in-Accepted c = rw c.in-Accepted.is c.mix.ensures
 
-returns_2 : tie.Need-returns-2
+returns-in-Refused : tie.Need-returns-in-Refused
 unfolding check_with words mixed
-returns_2 c = cc c.before.before.before.answer.given.1
+returns-in-Refused c = cc c.in-Refused.is
 
-returns-3 : tie.Need-returns-3
-returns-3 c = rw c.before.before.answer2.given.1 c.check-slot.ensures
+returns-in-Slot : tie.Need-returns-in-Slot
+returns-in-Slot c = rw c.in-Slot.is c.check_slot.ensures
 
-pub check-spec : {M : Type 1} → statement M
-check-spec =
+pub check_spec : {M : Type 1} → statement M
+check_spec =
     tie.close
     (tie.spec
-    enum_told
+    enum_told-1
     mix-requires
-    enum-known-answer
-    mix-requires-2
-    mix-requires-3
-    enum-known-answer-2
-    check-slot-requires
-    returns
-    returns_2
-    returns-3)
+    enum_known-answer
+    mix-requires-in-Refused
+    mix-requires-in-Refused-2
+    enum_known-answer-in-Slot-1
+    check_slot-requires
+    returns-in-Accepted
+    returns-in-Refused
+    returns-in-Slot)

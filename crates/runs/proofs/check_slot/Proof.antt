@@ -4,95 +4,95 @@ use Rattle.runs.specs.Check.{mixed, slot_words, words, check_with}
 use Rattle.runs.proofs.check_slot.Statement.{statement}
 use Rattle.runs.proofs.check_slot.Tie as tie
 
-enum-known-outcome : tie.Need-enum-known-outcome
-enum-known-outcome c = search rules
+enum_known-outcome : tie.Need-enum_known-outcome
+enum_known-outcome c = search rules
 
 mix-requires : tie.Need-mix-requires
 mix-requires c κs = search rules
 
-mix-requires-2 : tie.Need-mix-requires-2
-mix-requires-2 c κs = search rules
+mix-named-requires : tie.Need-mix-named-requires
+mix-named-requires c κs = search rules
 
-cast-mix : tie.Need-overflow-cast-mix
-cast-mix c = search rules
+overflow_cast-packet : tie.Need-overflow_cast-packet
+overflow_cast-packet c = search rules
 
-mix-requires-3 : tie.Need-mix-requires-3
-mix-requires-3 c κs = search rules
+mix-low-requires : tie.Need-mix-low-requires
+mix-low-requires c κs = search rules
 
-cast-mix-2 : tie.Need-overflow-cast-mix-2
-cast-mix-2 c = search rules
+overflow_cast-packet-in-Real : tie.Need-overflow_cast-packet-in-Real
+overflow_cast-packet-in-Real c = search rules
 
-mix-requires-4 : tie.Need-mix-requires-4
-mix-requires-4 c κs = search rules
+mix-high-requires : tie.Need-mix-high-requires
+mix-high-requires c κs = search rules
 
-mix-requires-5 : tie.Need-mix-requires-5
-mix-requires-5 c κs = search rules
+mix-requires-in-Real : tie.Need-mix-requires-in-Real
+mix-requires-in-Real c κs = search rules
 
-mix-requires-6 : tie.Need-mix-requires-6
-mix-requires-6 c κs = search rules
+mix-requires-in-Real-2 : tie.Need-mix-requires-in-Real-2
+mix-requires-in-Real-2 c κs = search rules
 
-enum-known-outcome-2 : tie.Need-enum-known-outcome-2
-enum-known-outcome-2 c = search rules
+enum_known-outcome-in-Dummy-1 : tie.Need-enum_known-outcome-in-Dummy-1
+enum_known-outcome-in-Dummy-1 c = search rules
 
-mix-requires-7 : tie.Need-mix-requires-7
-mix-requires-7 c κs = search rules
+mix-requires-in-Dummy : tie.Need-mix-requires-in-Dummy
+mix-requires-in-Dummy c κs = search rules
 
-mix-requires-8 : tie.Need-mix-requires-8
-mix-requires-8 c κs = search rules
+mix-requires-in-Dummy-2 : tie.Need-mix-requires-in-Dummy-2
+mix-requires-in-Dummy-2 c κs = search rules
 
-enum-known-outcome-3 : tie.Need-enum-known-outcome-3
-enum-known-outcome-3 c = search rules
+enum_known-outcome-in-Idle-1 : tie.Need-enum_known-outcome-in-Idle-1
+enum_known-outcome-in-Idle-1 c = search rules
 
-mix-requires-9 : tie.Need-mix-requires-9
-mix-requires-9 c κs = search rules
+mix-requires-in-Idle : tie.Need-mix-requires-in-Idle
+mix-requires-in-Idle c κs = search rules
 
-mix-requires-10 : tie.Need-mix-requires-10
-mix-requires-10 c κs = search rules
+mix-requires-in-Idle-2 : tie.Need-mix-requires-in-Idle-2
+mix-requires-in-Idle-2 c κs = search rules
 
-enum_told : tie.Need-enum-told
-enum_told c = search rules
+enum_told-1 : tie.Need-enum_told-1
+enum_told-1 c = search rules
 
-mix-requires-11 : tie.Need-mix-requires-11
-mix-requires-11 c κs = search rules
+mix-requires-in-None : tie.Need-mix-requires-in-None
+mix-requires-in-None c κs = search rules
 
-returns : tie.Need-returns
+returns-in-Real : tie.Need-returns-in-Real
 unfolding check_with words slot_words mixed
-returns c = rw c.before.before.before.before.before.before.before.before.before.outcome.given.1 (cc)
+returns-in-Real c = rw c.in-Real.is (cc)
 
-returns_2 : tie.Need-returns-2
+returns-in-Dummy : tie.Need-returns-in-Dummy
 unfolding check_with words slot_words mixed
-returns_2 c = rw c.before.before.before.outcome2.given.1 (cc)
+returns-in-Dummy c = rw c.in-Dummy.is (cc)
 
-returns-3 : tie.Need-returns-3
+returns-in-Idle : tie.Need-returns-in-Idle
 unfolding check_with words slot_words mixed
-returns-3 c = rw c.before.before.before.outcome3.given.1 (cc)
+returns-in-Idle c = rw c.in-Idle.is (cc)
 
-returns-4 : tie.Need-returns-4
+returns-in-None : tie.Need-returns-in-None
 unfolding check_with words slot_words mixed
-returns-4 c = rw c.before.enum_told.given.1 (cc)
+returns-in-None c = rw c.in-None.is (cc)
 
-pub check-slot-spec : {M : Type 1} → statement M
-check-slot-spec =
+pub check_slot_spec : {M : Type 1} → statement M
+check_slot_spec =
     tie.close
     (tie.spec
-    enum-known-outcome
+    enum_known-outcome
     mix-requires
-    mix-requires-2
-    cast-mix
-    mix-requires-3
-    cast-mix-2
-    mix-requires-4
-    mix-requires-5
-    mix-requires-6
-    enum-known-outcome-2
-    mix-requires-7
-    mix-requires-8
-    enum-known-outcome-3
-    mix-requires-9
-    mix-requires-10
-    enum_told
-    mix-requires-11
-    returns
-    returns_2
-    returns-3
-    returns-4)
+    mix-named-requires
+    overflow_cast-packet
+    mix-low-requires
+    overflow_cast-packet-in-Real
+    mix-high-requires
+    mix-requires-in-Real
+    mix-requires-in-Real-2
+    enum_known-outcome-in-Dummy-1
+    mix-requires-in-Dummy
+    mix-requires-in-Dummy-2
+    enum_known-outcome-in-Idle-1
+    mix-requires-in-Idle
+    mix-requires-in-Idle-2
+    enum_told-1
+    mix-requires-in-None
+    returns-in-Real
+    returns-in-Dummy
+    returns-in-Idle
+    returns-in-None)

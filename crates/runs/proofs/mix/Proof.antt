@@ -5,8 +5,8 @@ use Rattle.runs.specs.Check.{mix}
 use Rattle.runs.proofs.mix.Statement.{statement}
 use Rattle.runs.proofs.mix.Tie as tie
 
-wrapping-add-u32-requires : tie.Need-wrapping-add-u32-requires
-wrapping-add-u32-requires c κs = search rules
+wrapping_add_u32-requires : tie.Need-wrapping_add_u32-requires
+wrapping_add_u32-requires c κs = search rules
 
 new-requires : tie.Need-new-requires
 new-requires c κs = search rules
@@ -16,7 +16,7 @@ step-requires c κs = search rules
 
 returns : tie.Need-returns
 unfolding mix
-returns c = c.step.ensures ∙ ap stepped (c.before.new.ensures ∙ c.before.before.wrapping-add-u32.ensures)
+returns c = c.step.ensures ∙ ap stepped (c.before.new.ensures ∙ c.before.before.wrapping_add_u32.ensures)
 
-pub mix-spec : {M : Type 1} → statement M
-mix-spec = tie.close (tie.spec wrapping-add-u32-requires new-requires step-requires returns)
+pub mix_spec : {M : Type 1} → statement M
+mix_spec = tie.close (tie.spec wrapping_add_u32-requires new-requires step-requires returns)

@@ -5,13 +5,13 @@ use Rattle.runs.specs.Calls.{quiet_after}
 use Rattle.runs.proofs.quiet_after.Statement.{statement}
 use Rattle.runs.proofs.quiet_after.Tie as tie
 
-returns : tie.Need-returns
+returns-then-k-ge16380 : tie.Need-returns-then-k-ge16380
 unfolding quiet_after
-returns c = rw (le-leb _ _ c.if1.true)
+returns-then-k-ge16380 c = rw (le-leb _ _ c.if-k-ge16380.true)
 
-returns_2 : tie.Need-returns-2
+returns-else-k-ge16380 : tie.Need-returns-else-k-ge16380
 unfolding quiet_after
-returns_2 c = rw (lt-leb _ _ c.if1.false)
+returns-else-k-ge16380 c = rw (lt-leb _ _ c.if-k-ge16380.false)
 
-pub quiet-after-spec : {M : Type 1} → statement M
-quiet-after-spec = tie.close (tie.spec returns returns_2)
+pub quiet_after_spec : {M : Type 1} → statement M
+quiet_after_spec = tie.close (tie.spec returns-then-k-ge16380 returns-else-k-ge16380)

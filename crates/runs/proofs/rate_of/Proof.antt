@@ -4,13 +4,13 @@ use Rattle.runs.specs.Calls.{rate_of}
 use Rattle.runs.proofs.rate_of.Statement.{statement}
 use Rattle.runs.proofs.rate_of.Tie as tie
 
-returns : tie.Need-returns
+returns-then-id-eq0 : tie.Need-returns-then-id-eq0
 unfolding rate_of
-returns c = rw (eq-eqb _ _ c.if1.true)
+returns-then-id-eq0 c = rw (eq-eqb _ _ c.if-id-eq0.true)
 
-returns_2 : tie.Need-returns-2
+returns-else-id-eq0 : tie.Need-returns-else-id-eq0
 unfolding rate_of
-returns_2 c = rw (ne_eqb _ _ c.if1.false)
+returns-else-id-eq0 c = rw (ne_eqb _ _ c.if-id-eq0.false)
 
-pub rate-of-spec : {M : Type 1} → statement M
-rate-of-spec = tie.close (tie.spec returns returns_2)
+pub rate_of_spec : {M : Type 1} → statement M
+rate_of_spec = tie.close (tie.spec returns-then-id-eq0 returns-else-id-eq0)

@@ -1,35 +1,34 @@
 -- `runs::traffic_of` meets its contract: at each return the tests that led there say which row of the table holds, and which time
 -- it is. Assumes nothing.
 use Rattle.std.proofs.Common.{⊎_elim, rules, le-leb}
-use borrow.Author.Tests.{lt-leb, not-true, not-false}
+use borrow.Author.Tests.{lt-leb, not-true}
 use Rattle.runs.specs.Calls.{traffic_at}
 use Rattle.runs.proofs.traffic_of.Statement.{statement}
 use Rattle.runs.proofs.traffic_of.Tie as tie
 
-returns : tie.Need-returns
+returns-then-k-le1764 : tie.Need-returns-then-k-le1764
 unfolding traffic_at
-returns c = rw (le-leb _ _ c.if1.true)
+returns-then-k-le1764 c = rw (le-leb _ _ c.if-k-le1764.true)
 
-packet-of-requires : tie.Need-packet-of-requires
-packet-of-requires c κs = search rules
+packet_of-packet-requires : tie.Need-packet_of-packet-requires
+packet_of-packet-requires c κs = search rules
 
-returns_2 : tie.Need-returns-2
+returns-then-not-quiet : tie.Need-returns-then-not-quiet
 unfolding traffic_at
-returns_2 c =
-    let row = c.before.before in
+returns-then-not-quiet c =
+    let row = c in
     rw (
-      c.packet-of.ensures,
-      lt-leb _ _ row.before.if1.false,
-      le-leb _ _ row.if2.true,
-      not-true row.before.before.args.quiet c.before.if3.true,
+      c.packet_of-packet.ensures,
+      lt-leb _ _ row.if-k-le1764.false,
+      le-leb _ _ row.if-k-le15600.true,
+      not-true row.args.quiet c.if-not-quiet.true-raw,
     )
 
-returns-3 : tie.Need-returns-3
+returns : tie.Need-returns
 unfolding traffic_at
-returns-3 c =
-    let quiet = c.before.before.args.quiet in
-    rw (lt-leb _ _ c.before.if1.false)
-    (⊎_elim (λ w. rw (le-leb _ _ w.0.taken, not-false quiet w.1.left)) (λ w. rw (lt-leb _ _ w.left)) c.if2.branch)
+returns c =
+    rw (lt-leb _ _ c.if-k-le1764.false)
+    (⊎_elim (λ w. rw (le-leb _ _ w.0, w.1)) (λ w. rw (lt-leb _ _ w)) c.else-k-le15600.either)
 
-pub traffic-of-spec : {M : Type 1} → statement M
-traffic-of-spec = tie.close (tie.spec returns packet-of-requires returns_2 returns-3)
+pub traffic_of_spec : {M : Type 1} → statement M
+traffic_of_spec = tie.close (tie.spec returns-then-k-le1764 packet_of-packet-requires returns-then-not-quiet returns)
