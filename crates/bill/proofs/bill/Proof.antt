@@ -13,47 +13,47 @@ use Rattle.bill.proofs.bill.Statement.{statement}
 use Rattle.bill.proofs.bill.Tie as tie
 
 -- where the test has passed there is room for the lines of all ids
-room : (c : tie.Else1) → bill_room ≤ length c.before.before.before.args.out.now
+room : (c : tie.Else-out-lt-BILL_ROOM) → bill_room ≤ length c.args.out.now
 unfolding bill_room ids
-room c = omega (arith, c.if1.false)
+room c = omega (arith, c.if-out-lt-BILL_ROOM.false)
 
 -- the test before a script is carried out
-abbrev first : tie.After-carry-out → tie.Else1
+abbrev first : tie.After-carry_out-carried → tie.Else-out-lt-BILL_ROOM
 first c = c.before.before.before.before.before.before.before.before
 
-returns : tie.Need-returns
+returns-then-out-lt-BILL_ROOM : tie.Need-returns-then-out-lt-BILL_ROOM
 unfolding bill_room ids
-returns c = billed_bare _ _ _ c.if1.true
+returns-then-out-lt-BILL_ROOM c = billed_bare _ _ _ c.if-out-lt-BILL_ROOM.true
 
-carry-out-requires : tie.Need-carry-out-requires
-carry-out-requires c κs = search rules
+carry_out-carried-requires : tie.Need-carry_out-carried-requires
+carry_out-carried-requires c κs = search rules
 
-same_length : tie.Need-same-length
-same_length c = search rules
+shape_of-out-then-text-gt-TEXT_LIMIT : tie.Need-shape_of-out-then-text-gt-TEXT_LIMIT
+shape_of-out-then-text-gt-TEXT_LIMIT c = search rules
 
-returns_2 : tie.Need-returns-2
+returns-then-text-gt-TEXT_LIMIT : tie.Need-returns-then-text-gt-TEXT_LIMIT
 unfolding text_limit
-returns_2 c =
-    let call = c.before.before.before in
-    billed_long _ _ _ (room (first call)) (search rules) call.carry-out.ensures c.if2.true
+returns-then-text-gt-TEXT_LIMIT c =
+    let call = c in
+    billed_long _ _ _ (room (first c.before.before.before)) (search rules) call.carry_out-carried.ensures c.if-text-gt-TEXT_LIMIT.true
 
-print-lines-requires : tie.Need-print-lines-requires
-print-lines-requires c κs =
-    let call = c.before.before.before.before.before in
-    omega (arith, room (first call), call.carry-out.auto.1.0)
+print_lines-requires : tie.Need-print_lines-requires
+print_lines-requires c κs =
+    let call = c in
+    omega (arith, room (first c.before.before.before.before.before), call.carry_out-carried.auto.out)
 
-same_length_2 : tie.Need-same-length-2
-same_length_2 c = search rules
+shape_of-out : tie.Need-shape_of-out
+shape_of-out c = search rules
 
-returns-3 : tie.Need-returns-3
+returns : tie.Need-returns
 unfolding text_limit
-returns-3 c =
-    let last = c.before.before in
-    let test = last.before.before.before in
-    let call = test.before.before.before in
-    billed_lines _ _ _ (room (first call)) (search rules) test.if2.false call.carry-out.ensures
-    (last.print-lines.ensures _ refl)
+returns c =
+    let last = c in
+    let test = last in
+    let call = test in
+    billed_lines _ _ _ (room (first c.before.before.before.before.before.before.before.before)) (search rules) test.if-text-gt-TEXT_LIMIT.false call.carry_out-carried.ensures
+    (last.print_lines.ensures _ refl)
 
-pub bill-spec : {M : Type 1} → statement M
-bill-spec =
-    tie.close (tie.spec returns carry-out-requires same_length returns_2 print-lines-requires same_length_2 returns-3)
+pub bill_spec : {M : Type 1} → statement M
+bill_spec =
+    tie.close (tie.spec returns-then-out-lt-BILL_ROOM carry_out-carried-requires shape_of-out-then-text-gt-TEXT_LIMIT returns-then-text-gt-TEXT_LIMIT print_lines-requires shape_of-out returns)

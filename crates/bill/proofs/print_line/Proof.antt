@@ -10,44 +10,44 @@ use Rattle.bill.proofs.Billing.{sheet_line_lem}
 use Rattle.bill.proofs.print_line.Statement.{statement}
 use Rattle.bill.proofs.print_line.Tie as tie
 
-sheet-requires : tie.Need-sheet-requires
-sheet-requires c κs = search rules
+sheet-sheet-requires : tie.Need-sheet-sheet-requires
+sheet-sheet-requires c κs = search rules
 
-enum-known-sheet : tie.Need-enum-known-sheet
-enum-known-sheet c = search rules
+enum_known-sheet : tie.Need-enum_known-sheet
+enum_known-sheet c = search rules
 
-print-counts-requires : tie.Need-print-counts-requires
-print-counts-requires c κs = search rules
+print_counts-requires : tie.Need-print_counts-requires
+print_counts-requires c κs = search rules
 
-enum_told : tie.Need-enum-told
-enum_told c = search rules
+enum_told-1 : tie.Need-enum_told-1
+enum_told-1 c = search rules
 
-same_length : tie.Need-same-length
-same_length c = search rules
+shape_of-out : tie.Need-shape_of-out
+shape_of-out c = search rules
 
-returns : tie.Need-returns
+returns-in-Counts : tie.Need-returns-in-Counts
 unfolding sheet_line
-returns c =
-    let told = c.before.before.before.before.before in
-    let call = told.before.before in
-    let args = call.before.before.args in (
+returns-in-Counts c =
+    let told = c in
+    let call = told in
+    let args = call.args in (
       λ t e.
-          line_as (sheet_line_lem (whole_of args.control t) args.id (sym told.sheet2.given.1 ∙ call.sheet.ensures t e))
-          c.before.before.print-counts.ensures.0,
-      c.before.before.print-counts.ensures.1,
+          line_as (sheet_line_lem (whole_of args.control t) args.id (sym c.in-Counts.is ∙ call.sheet-sheet.ensures t e))
+          c.print_counts.ensures.0,
+      c.print_counts.ensures.1,
     )
 
-returns_2 : tie.Need-returns-2
+returns-in-Unavailable : tie.Need-returns-in-Unavailable
 unfolding sheet_line
-returns_2 c =
-    let call = c.before.before in
-    let args = call.before.before.args in (
+returns-in-Unavailable c =
+    let call = c in
+    let args = call.args in (
       λ t e.
-          line_as (sheet_line_lem (whole_of args.control t) args.id (sym c.enum_told.given.1 ∙ call.sheet.ensures t e))
+          line_as (sheet_line_lem (whole_of args.control t) args.id (sym c.in-Unavailable.is ∙ call.sheet-sheet.ensures t e))
           (nothing_written _ _),
       omega arith,
     )
 
-pub print-line-spec : {M : Type 1} → statement M
-print-line-spec =
-    tie.close (tie.spec sheet-requires enum-known-sheet print-counts-requires enum_told same_length returns returns_2)
+pub print_line_spec : {M : Type 1} → statement M
+print_line_spec =
+    tie.close (tie.spec sheet-sheet-requires enum_known-sheet print_counts-requires enum_told-1 shape_of-out returns-in-Counts returns-in-Unavailable)

@@ -15,57 +15,57 @@ use Rattle.bill.proofs.Billing.{lines_more}
 use Rattle.bill.proofs.print_lines.Statement.{statement}
 use Rattle.bill.proofs.print_lines.Tie as tie
 
-abbrev invariant-loop : tie.invariant-loop
-invariant-loop out₀ control counts end₀ id₀ out end id =
+abbrev invariant-loop-id : tie.invariant-loop-id
+invariant-loop-id out₀ control counts end₀ id₀ out end id =
     (length out ≡ length out₀) × (id ≤ ids) × (end ≤ id * line_room)
     × ((t : Tables) → t.counts ≡ counts → take end out ≡ lines_below id (whole_of control t))
 
-abbrev decreases-loop : tie.decreases-loop
-decreases-loop out₀ control counts end₀ id₀ out end id = ids - id
+abbrev decreases-loop-id : tie.decreases-loop-id
+decreases-loop-id out₀ control counts end₀ id₀ out end id = ids - id
 
-loop-holds : tie.Need-loop-init invariant-loop decreases-loop
+loop-id-init : tie.Need-loop-id-init invariant-loop-id decreases-loop-id
 unfolding ids lines_below
-loop-holds c = (refl, omega arith, omega arith, λ t e. refl)
+loop-id-init c = (refl, omega arith, omega arith, λ t e. refl)
 
-print-line-requires : tie.Need-print-line-requires invariant-loop decreases-loop
-print-line-requires c κs = search rules
+print_line-end-requires : tie.Need-print_line-end-requires invariant-loop-id decreases-loop-id
+print_line-end-requires c κs = search rules
 
-add-id : tie.Need-overflow-add-id invariant-loop decreases-loop
+overflow_add-id : tie.Need-overflow_add-id invariant-loop-id decreases-loop-id
 unfolding ids
-add-id c = omega arith
+overflow_add-id c = omega arith
 
-loop-less : tie.Need-loop-smaller invariant-loop decreases-loop
+loop-id-smaller : tie.Need-loop-id-smaller invariant-loop-id decreases-loop-id
 unfolding ids
-loop-less c = omega arith
+loop-id-smaller c = omega arith
 
-loop-again : tie.Need-loop-preserved invariant-loop decreases-loop
+loop-id-preserved : tie.Need-loop-id-preserved invariant-loop-id decreases-loop-id
 unfolding ids bill_room
-loop-again c =
-    let line = c.before.before.print-line in
-    let inside = c.before.before.before.before in
-    let loop = inside.before.loop in
-    let start = inside.before.before.before in
-    let same : length line.new.0 ≡ length loop.out = search rules in
-    let room : loop.end + line_room ≤ length loop.out = omega (arith, loop.invariant.0, loop.invariant.2, start.requires, inside.loop-test.true) in (
+loop-id-preserved c =
+    let line = c.print_line-end in
+    let inside = c in
+    let loop = inside.loop-id in
+    let start = inside in
+    let same : length line.new.out ≡ length loop.out = search rules in
+    let room : loop.end + line_room ≤ length loop.out = omega (arith, loop.invariant.0, loop.invariant.2, start.requires, inside.loop-id-test.true) in (
       same ∙ loop.invariant.0,
-      omega (arith, inside.loop-test.true),
+      omega (arith, inside.loop-id-test.true),
       omega (arith, line.ensures.1, loop.invariant.2),
       λ t e. lines_more (whole_of start.args.control t) loop.id (loop.invariant.3 t e) (line.ensures.0 t e) room,
     )
 
-same_length : tie.Need-same-length invariant-loop decreases-loop
-same_length c = search rules
+shape_of-out : tie.Need-shape_of-out invariant-loop-id decreases-loop-id
+shape_of-out c = search rules
 
-returns : tie.Need-returns invariant-loop decreases-loop
+returns : tie.Need-returns invariant-loop-id decreases-loop-id
 unfolding ids bill_room
 returns c t e =
-    let loop = c.before.loop in
-    let last : loop.id ≡ ids = omega (arith, loop.invariant.1, c.loop-test.false) in
+    let loop = c.loop-id in
+    let last : loop.id ≡ ids = omega (arith, loop.invariant.1, c.loop-id-test.false) in
     record {
-      written = loop.invariant.3 t e ∙ ap (λ (n : ℕ). lines_below n (whole_of c.before.before.before.args.control t)) last;
-      fits = omega (arith, loop.invariant.0, loop.invariant.1, loop.invariant.2, c.before.before.before.requires);
+      written = loop.invariant.3 t e ∙ ap (λ (n : ℕ). lines_below n (whole_of c.args.control t)) last;
+      fits = omega (arith, loop.invariant.0, loop.invariant.1, loop.invariant.2, c.requires);
     }
 
-pub print-lines-spec : {M : Type 1} → statement M
-print-lines-spec =
-    tie.close (tie.spec invariant-loop decreases-loop loop-holds print-line-requires add-id loop-less loop-again same_length returns)
+pub print_lines_spec : {M : Type 1} → statement M
+print_lines_spec =
+    tie.close (tie.spec invariant-loop-id decreases-loop-id loop-id-init print_line-end-requires overflow_add-id loop-id-smaller loop-id-preserved shape_of-out returns)

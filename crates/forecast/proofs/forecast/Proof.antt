@@ -11,47 +11,47 @@ use Rattle.forecast.proofs.forecast.Statement.{statement}
 use Rattle.forecast.proofs.forecast.Tie as tie
 
 -- where the test has passed there is room for a line
-room : (c : tie.Else1) → line_room ≤ length c.before.before.before.before.args.out.now
-room c = roomy c.before.before.before.before.args.out.now 0 c.before.has_room.ensures c.if1.false
+room : (c : tie.Else-not-has_room) → line_room ≤ length c.args.out.now
+room c = roomy c.args.out.now 0 c.has_room.ensures c.if-not-has_room.false-raw
 
 -- the test before a script is carried out
-abbrev first : tie.After-carry-out → tie.Else1
+abbrev first : tie.After-carry_out-carried → tie.Else-not-has_room
 first c = c.before.before.before.before.before.before.before.before
 
-has-room-requires : tie.Need-has-room-requires
-has-room-requires c κs = search rules
+has_room-requires : tie.Need-has_room-requires
+has_room-requires c κs = search rules
+
+returns-then-not-has_room : tie.Need-returns-then-not-has_room
+returns-then-not-has_room c = told-bare _ _ _ _ c.has_room.ensures c.if-not-has_room.true-raw
+
+carry_out-carried-requires : tie.Need-carry_out-carried-requires
+carry_out-carried-requires c κs = search rules
+
+shape_of-out-then-text-gt-TEXT_LIMIT : tie.Need-shape_of-out-then-text-gt-TEXT_LIMIT
+shape_of-out-then-text-gt-TEXT_LIMIT c = search rules
+
+returns-then-text-gt-TEXT_LIMIT : tie.Need-returns-then-text-gt-TEXT_LIMIT
+unfolding text_limit
+returns-then-text-gt-TEXT_LIMIT c =
+    let call = c in
+    told-long _ _ _ _ (room (first c.before.before.before)) (search rules) call.carry_out-carried.ensures c.if-text-gt-TEXT_LIMIT.true
+
+print_line-requires : tie.Need-print_line-requires
+print_line-requires c κs = search rules
+
+shape_of-out : tie.Need-shape_of-out
+shape_of-out c = search rules
 
 returns : tie.Need-returns
-returns c = told-bare _ _ _ _ c.before.has_room.ensures c.if1.true
-
-carry-out-requires : tie.Need-carry-out-requires
-carry-out-requires c κs = search rules
-
-same_length : tie.Need-same-length
-same_length c = search rules
-
-returns_2 : tie.Need-returns-2
 unfolding text_limit
-returns_2 c =
-    let call = c.before.before.before in
-    told-long _ _ _ _ (room (first call)) (search rules) call.carry-out.ensures c.if2.true
+returns c =
+    let last = c in
+    let test = last in
+    let call = test in
+    told_line _ _ _ _ (room (first c.before.before.before.before.before.before.before.before)) (search rules) test.if-text-gt-TEXT_LIMIT.false call.carry_out-carried.ensures
+    (last.print_line.ensures _ _ _ _ call.carry_out-carried.ensures.valid)
 
-print-line-requires : tie.Need-print-line-requires
-print-line-requires c κs = search rules
-
-same_length_2 : tie.Need-same-length-2
-same_length_2 c = search rules
-
-returns-3 : tie.Need-returns-3
-unfolding text_limit
-returns-3 c =
-    let last = c.before.before in
-    let test = last.before.before.before.before in
-    let call = test.before.before.before in
-    told_line _ _ _ _ (room (first call)) (search rules) test.if2.false call.carry-out.ensures
-    (last.print-line.ensures _ _ _ _ call.carry-out.ensures.valid)
-
-pub forecast-spec : {M : Type 1} → statement M
-forecast-spec =
+pub forecast_spec : {M : Type 1} → statement M
+forecast_spec =
     tie.close
-    (tie.spec has-room-requires returns carry-out-requires same_length returns_2 print-line-requires same_length_2 returns-3)
+    (tie.spec has_room-requires returns-then-not-has_room carry_out-carried-requires shape_of-out-then-text-gt-TEXT_LIMIT returns-then-text-gt-TEXT_LIMIT print_line-requires shape_of-out returns)
