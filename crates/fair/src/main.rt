@@ -7,7 +7,6 @@ ghost use Rattle.grammar.specs.FairSheet.{fair_printout};
 ghost use Rattle.streams.specs.Writing.{HandedOn};
 
 use fairsheet::SHEET_ROOM;
-use libc::STDERR_FILENO;
 use streams::{Reading, Writing};
 
 // The program's name alone.
@@ -21,29 +20,32 @@ fn has_none(count: usize) -> bool
 }
 
 // Writes the printout of a text, with room for the lines of all rates.
-fn write_printout(text: &[u8]) -> Writing
+fn write_printout(rt: &impl Print, text: &[u8]) -> Writing
     ensures { HandedOn result (fair_printout text.now) }
 {
     let mut out: [u8; SHEET_ROOM] = [0; SHEET_ROOM];
     let written = fairsheet::print(text, &mut out);
-    streams::write_text(&out[..written])
+    streams::write_text(rt, &out[..written])
 }
 
 // The room for the text is more than the longest that is read, so that a longer one is seen to be longer. What cannot be read or
 // written is told on standard error.
-fn main() {
-    if !has_none(os::arg_count()) {
-        io::write_all(STDERR_FILENO, b"usage: fair\n");
+fn main(rt: HostRuntime) {
+    if !has_none(arguments::count(&rt)) {
+        let _ = eprintln!(rt; "usage: fair");
         return;
     }
     let mut text = io::large_buffer();
-    let got = streams::read_text(&mut text);
-    let Reading::Bytes(length) = got else {
-        os::fail(b"fair: standard input");
-        return;
+    let got = streams::read_text(&mut rt.stdin(), &mut text);
+    let length = match got {
+        Reading::Bytes(length) => length,
+        Reading::Failed(error) => {
+            streams::tell(&rt, "fair: standard input", error);
+            return;
+        }
     };
-    let put = write_printout(&text[..length]);
-    if let Writing::Failed = put {
-        os::fail(b"fair: standard output");
+    let put = write_printout(&rt, &text[..length]);
+    if let Writing::Failed(error) = put {
+        streams::tell(&rt, "fair: standard output", error);
     }
 }

@@ -15,10 +15,10 @@ ghost use Rattle.greedy.specs.Stands.{Begins, Goes, Tells};
 use counts::COUNTS;
 use definitions::{Answer, INDIFFERENT, SHARES};
 use grammar::Call;
-use libc::{STDERR_FILENO, STDOUT_FILENO};
 use order::LINKS;
 use parser::Word;
 use runs::Progress;
+use std::io::Result;
 use tables::{Control, LEVEL, STOCKS, STORE, TERMS};
 use tally::BLOCK;
 
@@ -295,26 +295,31 @@ fn calls(
     at
 }
 
+// Prints the line of the last of so many blocks.
+fn print_whole(rt: &impl Print, blocks: u32, check: u32, offerings: u32, exact: u32) -> Result<()> {
+    tally::print_check(rt, blocks, check)?;
+    println!(rt; " offerings {offerings} exact {exact})")
+}
+
 // Prints the line of the last of so many blocks, and gives whether it could be written whole. The seed stands here for the
 // contract: what is printed is of its run.
-fn tell(seed: u32, blocks: u32, check: u32, offerings: u32, exact: u32) -> bool
+fn tell(
+    rt: &(impl Print + Eprint),
+    seed: u32,
+    blocks: u32,
+    check: u32,
+    offerings: u32,
+    exact: u32,
+) -> bool
     requires { Tells seed (blocks * block) check offerings exact }
 {
-    if tally::print_check(blocks, check)
-        && io::write_all(STDOUT_FILENO, b" offerings ")
-        && io::print_decimal(STDOUT_FILENO, tables::wide(offerings))
-        && io::write_all(STDOUT_FILENO, b" exact ")
-        && io::print_decimal(STDOUT_FILENO, tables::wide(exact))
-        && io::write_all(STDOUT_FILENO, b")\n")
-    {
-        return true;
-    }
-    os::fail(b"greedy: standard output");
-    false
+    let line = print_whole(rt, blocks, check, offerings, exact);
+    tally::is_whole(rt, line, "greedy: standard output")
 }
 
 // So many blocks from a seed, with a line after each. It ends at a line that could not be written.
 fn blocks(
+    rt: &(impl Print + Eprint),
     seed: u32,
     count: u32,
     terms: &mut [u32; TERMS],
@@ -330,6 +335,7 @@ fn blocks(
         at = calls(at, terms, stocks, handles, lengths, links, counts, BLOCK);
         done += 1;
         if !tell(
+            rt,
             seed,
             done,
             at.progress.check,
@@ -342,7 +348,7 @@ fn blocks(
 }
 
 // A run on tables of its own.
-fn run(seed: u32, count: u32) {
+fn run(rt: &(impl Print + Eprint), seed: u32, count: u32) {
     let mut terms: [u32; TERMS] = [0; TERMS];
     let mut stocks: [u32; STOCKS] = [0; STOCKS];
     let mut handles: [u64; STORE] = [0; STORE];
@@ -350,6 +356,7 @@ fn run(seed: u32, count: u32) {
     let mut links: [u32; LINKS] = [0; LINKS];
     let mut counts: [u64; COUNTS] = [0; COUNTS];
     blocks(
+        rt,
         seed,
         count,
         &mut terms,
@@ -361,24 +368,24 @@ fn run(seed: u32, count: u32) {
     );
 }
 
-fn usage() {
-    io::write_all(STDERR_FILENO, b"usage: greedy SEED BLOCKS\n");
+fn usage(rt: &impl Eprint) {
+    let _ = eprintln!(rt; "usage: greedy SEED BLOCKS");
 }
 
-fn main() {
-    if os::arg_count() != ARGUMENTS {
-        usage();
+fn main(rt: HostRuntime) {
+    if arguments::count(&rt) != ARGUMENTS {
+        usage(&rt);
         return;
     }
-    let first = arguments::number(1);
+    let first = arguments::number(&rt, 1);
     let Word::Number { value: seed } = first else {
-        usage();
+        usage(&rt);
         return;
     };
-    let second = arguments::number(2);
+    let second = arguments::number(&rt, 2);
     let Word::Number { value: count } = second else {
-        usage();
+        usage(&rt);
         return;
     };
-    run(seed, count);
+    run(&rt, seed, count);
 }

@@ -6,7 +6,6 @@ ghost use Rattle.std.specs.Prelude.{◌≡◌, ◌*◌};
 ghost use Rattle.runs.specs.LongRun.{block, after};
 
 use counts::COUNTS;
-use libc::STDERR_FILENO;
 use order::LINKS;
 use parser::Word;
 use tables::{STOCKS, STORE, TERMS};
@@ -16,14 +15,15 @@ use tally::BLOCK;
 const ARGUMENTS: usize = 3;
 
 // Prints the line of the last of so many blocks. The seed stands here for the contract: what is printed is its check.
-fn tell(seed: u32, blocks: u32, check: u32) -> bool
+fn tell(rt: &(impl Print + Eprint), seed: u32, blocks: u32, check: u32) -> bool
     requires { check ≡ (after seed (blocks * block)).check }
 {
-    tally::print_line(blocks, check, b"longrun: standard output")
+    tally::print_line(rt, blocks, check, "longrun: standard output")
 }
 
 // So many blocks from a seed, with a line after each. It ends at a line that could not be written.
 fn blocks(
+    rt: &(impl Print + Eprint),
     seed: u32,
     count: u32,
     terms: &mut [u32; TERMS],
@@ -38,14 +38,14 @@ fn blocks(
     while done < count {
         at = runs::calls(at, terms, stocks, handles, lengths, links, counts, BLOCK);
         done += 1;
-        if !tell(seed, done, at.check) {
+        if !tell(rt, seed, done, at.check) {
             return;
         }
     }
 }
 
 // A run on tables of its own.
-fn run(seed: u32, count: u32) {
+fn run(rt: &(impl Print + Eprint), seed: u32, count: u32) {
     let mut terms: [u32; TERMS] = [0; TERMS];
     let mut stocks: [u32; STOCKS] = [0; STOCKS];
     let mut handles: [u64; STORE] = [0; STORE];
@@ -53,6 +53,7 @@ fn run(seed: u32, count: u32) {
     let mut links: [u32; LINKS] = [0; LINKS];
     let mut counts: [u64; COUNTS] = [0; COUNTS];
     blocks(
+        rt,
         seed,
         count,
         &mut terms,
@@ -64,24 +65,24 @@ fn run(seed: u32, count: u32) {
     );
 }
 
-fn usage() {
-    io::write_all(STDERR_FILENO, b"usage: longrun SEED BLOCKS\n");
+fn usage(rt: &impl Eprint) {
+    let _ = eprintln!(rt; "usage: longrun SEED BLOCKS");
 }
 
-fn main() {
-    if os::arg_count() != ARGUMENTS {
-        usage();
+fn main(rt: HostRuntime) {
+    if arguments::count(&rt) != ARGUMENTS {
+        usage(&rt);
         return;
     }
-    let first = arguments::number(1);
+    let first = arguments::number(&rt, 1);
     let Word::Number { value: seed } = first else {
-        usage();
+        usage(&rt);
         return;
     };
-    let second = arguments::number(2);
+    let second = arguments::number(&rt, 2);
     let Word::Number { value: count } = second else {
-        usage();
+        usage(&rt);
         return;
     };
-    run(seed, count);
+    run(&rt, seed, count);
 }

@@ -14,7 +14,6 @@ ghost use Rattle.remains.specs.Started.{stretch, started, Starts};
 
 use counts::COUNTS;
 use definitions::PLACES;
-use libc::STDERR_FILENO;
 use order::{END, LINKS};
 use parser::Word;
 use runs::Progress;
@@ -166,14 +165,15 @@ fn start(
 }
 
 // Prints the line of the last of so many blocks. The seeds stand here for the contract: what is printed is their check.
-fn tell(earlier: u32, seed: u32, blocks: u32, check: u32) -> bool
+fn tell(rt: &(impl Print + Eprint), earlier: u32, seed: u32, blocks: u32, check: u32) -> bool
     requires { check ≡ (further (blocks * block) (started earlier seed)).check }
 {
-    tally::print_line(blocks, check, b"remains: standard output")
+    tally::print_line(rt, blocks, check, "remains: standard output")
 }
 
 // So many blocks from a seed, with a line after each. It ends at a line that could not be written.
 fn blocks(
+    rt: &(impl Print + Eprint),
     earlier: u32,
     seed: u32,
     count: u32,
@@ -192,14 +192,14 @@ fn blocks(
     while done < count {
         at = block(at, terms, stocks, handles, lengths, links, counts, number);
         done += 1;
-        if !tell(earlier, seed, done, at.check) {
+        if !tell(rt, earlier, seed, done, at.check) {
             return;
         }
     }
 }
 
 // A run on tables of its own, which hold a number throughout.
-fn run(seed: u32, count: u32, number: u32, earlier: u32) {
+fn run(rt: &(impl Print + Eprint), seed: u32, count: u32, number: u32, earlier: u32) {
     let mut terms: [u32; TERMS] = [number; TERMS];
     let mut stocks: [u32; STOCKS] = [number; STOCKS];
     let mut handles: [u64; STORE] = [number as u64; STORE];
@@ -207,6 +207,7 @@ fn run(seed: u32, count: u32, number: u32, earlier: u32) {
     let mut links: [u32; LINKS] = [number; LINKS];
     let mut counts: [u64; COUNTS] = [number as u64; COUNTS];
     blocks(
+        rt,
         earlier,
         seed,
         count,
@@ -220,37 +221,34 @@ fn run(seed: u32, count: u32, number: u32, earlier: u32) {
     );
 }
 
-fn usage() {
-    io::write_all(
-        STDERR_FILENO,
-        b"usage: remains SEED BLOCKS NUMBER EARLIER\n",
-    );
+fn usage(rt: &impl Eprint) {
+    let _ = eprintln!(rt; "usage: remains SEED BLOCKS NUMBER EARLIER");
 }
 
-fn main() {
-    if os::arg_count() != ARGUMENTS {
-        usage();
+fn main(rt: HostRuntime) {
+    if arguments::count(&rt) != ARGUMENTS {
+        usage(&rt);
         return;
     }
-    let first = arguments::number(1);
+    let first = arguments::number(&rt, 1);
     let Word::Number { value: seed } = first else {
-        usage();
+        usage(&rt);
         return;
     };
-    let second = arguments::number(2);
+    let second = arguments::number(&rt, 2);
     let Word::Number { value: count } = second else {
-        usage();
+        usage(&rt);
         return;
     };
-    let third = arguments::number(3);
+    let third = arguments::number(&rt, 3);
     let Word::Number { value: number } = third else {
-        usage();
+        usage(&rt);
         return;
     };
-    let fourth = arguments::number(4);
+    let fourth = arguments::number(&rt, 4);
     let Word::Number { value: earlier } = fourth else {
-        usage();
+        usage(&rt);
         return;
     };
-    run(seed, count, number, earlier);
+    run(&rt, seed, count, number, earlier);
 }

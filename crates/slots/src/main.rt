@@ -15,10 +15,10 @@ ghost use Rattle.slots.specs.Requests.{usage, alone, numbered, asked, requested}
 use arguments::ARGUMENT;
 use counts::COUNTS;
 use grammar::Audience;
-use libc::{STDERR_FILENO, STDOUT_FILENO};
 use order::LINKS;
 use parser::Word;
 use script::Progress;
+use std::env::Env;
 use streams::{Reading, Writing};
 use tables::{STOCKS, STORE, TERMS};
 
@@ -42,6 +42,7 @@ enum Request {
 // Writes what the start of a script left in the buffer, and piece by piece what is behind it, to the end of the text or a write
 // that fails.
 fn write_pieces(
+    rt: &impl Print,
     audience: Audience,
     text: &[u8],
     out: &mut [u8],
@@ -60,7 +61,10 @@ fn write_pieces(
     let mut at = first.next;
     let mut written = first.written;
     let mut total = written;
-    while io::write_all(STDOUT_FILENO, &out[..written]) {
+    loop {
+        if let Err(error) = rt.write_all(&out[..written]) {
+            return Writing::Failed(error);
+        }
         if at >= text.len() {
             return Writing::Bytes(total);
         }
@@ -72,11 +76,10 @@ fn write_pieces(
         written = piece.written;
         total += written;
     }
-    Writing::Failed
 }
 
 // Writes the printout of a text for an audience, on tables of its own.
-fn write_printout(audience: Audience, text: &[u8]) -> Writing
+fn write_printout(rt: &impl Print, audience: Audience, text: &[u8]) -> Writing
     ensures { HandedOn result (printout_for audience text.now) }
 {
     let mut terms: [u32; TERMS] = [0; TERMS];
@@ -88,6 +91,7 @@ fn write_printout(audience: Audience, text: &[u8]) -> Writing
     let mut out = io::buffer();
     let first = script::start(text, &mut out);
     write_pieces(
+        rt,
         audience,
         text,
         &mut out,
@@ -102,7 +106,7 @@ fn write_printout(audience: Audience, text: &[u8]) -> Writing
 }
 
 // Writes the forecast behind a text, on tables of its own.
-fn write_forecast(text: &[u8], ticks: u32) -> Writing
+fn write_forecast(rt: &impl Print, text: &[u8], ticks: u32) -> Writing
     ensures { HandedOn result (forecast_behind text.now ticks) }
 {
     let mut terms: [u32; TERMS] = [0; TERMS];
@@ -123,11 +127,11 @@ fn write_forecast(text: &[u8], ticks: u32) -> Writing
         &mut links,
         &mut counts,
     );
-    streams::write_text(&out[..written])
+    streams::write_text(rt, &out[..written])
 }
 
 // Writes the count sheets behind a text, on tables of its own. The buffer has room for the line of every id.
-fn write_bill(text: &[u8]) -> Writing
+fn write_bill(rt: &impl Print, text: &[u8]) -> Writing
     ensures { HandedOn result (counts_printed text.now) }
 {
     let mut terms: [u32; TERMS] = [0; TERMS];
@@ -147,11 +151,11 @@ fn write_bill(text: &[u8]) -> Writing
         &mut links,
         &mut counts,
     );
-    streams::write_text(&out[..written])
+    streams::write_text(rt, &out[..written])
 }
 
 // Writes the line of usage.
-fn write_usage(file: i32) -> Writing
+fn write_usage(file: &impl Print) -> Writing
     ensures { HandedOn result usage }
 {
     streams::write_to(
@@ -161,14 +165,14 @@ fn write_usage(file: i32) -> Writing
 }
 
 // Writes what is asked for.
-fn write_requested(text: &[u8], request: Request) -> Writing
+fn write_requested(rt: &impl Print, text: &[u8], request: Request) -> Writing
     ensures { HandedOn result (requested request text.now) }
 {
     match request {
-        Request::Printout { audience } => write_printout(audience, text),
-        Request::Forecast { ticks } => write_forecast(text, ticks),
-        Request::Bill => write_bill(text),
-        Request::Help => write_usage(STDOUT_FILENO),
+        Request::Printout { audience } => write_printout(rt, audience, text),
+        Request::Forecast { ticks } => write_forecast(rt, text, ticks),
+        Request::Bill => write_bill(rt, text),
+        Request::Help => write_usage(rt),
         Request::Unknown => Writing::Bytes(0),
     }
 }
@@ -229,38 +233,41 @@ fn request_of(count: usize, option: &[u8], number: &[u8]) -> Request
 }
 
 // No contract can say what the arguments are.
-fn read_arguments() -> Request {
+fn read_arguments(rt: &impl Env) -> Request {
     let mut option = [0u8; ARGUMENT];
     let mut number = [0u8; ARGUMENT];
-    let first = arguments::read(1, &mut option);
-    let second = arguments::read(2, &mut number);
-    request_of(os::arg_count(), &option[..first], &number[..second])
+    let first = arguments::read(rt, 1, &mut option);
+    let second = arguments::read(rt, 2, &mut number);
+    request_of(arguments::count(rt), &option[..first], &number[..second])
 }
 
 // What cannot be written is told on standard error.
-fn report(put: Writing) {
-    if let Writing::Failed = put {
-        os::fail(b"slots: standard output");
+fn report(rt: &impl Eprint, put: Writing) {
+    if let Writing::Failed(error) = put {
+        streams::tell(rt, "slots: standard output", error);
     }
 }
 
-// The room for the text is more than the longest that is read, so that a longer one is seen to be longer. A program has no exit
-// status of its own to give; what cannot be read is told on standard error.
-fn main() {
-    let request = read_arguments();
+// The room for the text is more than the longest that is read, so that a longer one is seen to be longer. The exit status says
+// nothing: what cannot be read is told on standard error.
+fn main(rt: HostRuntime) {
+    let request = read_arguments(&rt);
     if let Request::Unknown = request {
-        write_usage(STDERR_FILENO);
+        write_usage(&rt.stderr());
         return;
     }
     if let Request::Help = request {
-        report(write_requested(b"", request));
+        report(&rt, write_requested(&rt, b"", request));
         return;
     }
     let mut text = io::large_buffer();
-    let got = streams::read_text(&mut text);
-    let Reading::Bytes(length) = got else {
-        os::fail(b"slots: standard input");
-        return;
+    let got = streams::read_text(&mut rt.stdin(), &mut text);
+    let length = match got {
+        Reading::Bytes(length) => length,
+        Reading::Failed(error) => {
+            streams::tell(&rt, "slots: standard input", error);
+            return;
+        }
     };
-    report(write_requested(&text[..length], request));
+    report(&rt, write_requested(&rt, &text[..length], request));
 }

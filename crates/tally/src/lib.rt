@@ -4,7 +4,7 @@
 ghost use Rattle.std.specs.Prelude.{◌≡◌, ◌*◌};
 ghost use Rattle.runs.specs.LongRun.{block};
 
-use libc::STDOUT_FILENO;
+use std::io::Result;
 
 // How many calls a block has.
 pub const BLOCK: u32 = 1000000;
@@ -15,20 +15,31 @@ pub fn calls_in(blocks: u32) -> u64
     tables::wide(blocks) * (BLOCK as u64)
 }
 
-// Prints how the line of the last of so many blocks begins, up to its check, and gives whether it could be written whole.
-pub fn print_check(blocks: u32, check: u32) -> bool {
-    io::write_all(STDOUT_FILENO, b"(calls ")
-        && io::print_decimal(STDOUT_FILENO, calls_in(blocks))
-        && io::write_all(STDOUT_FILENO, b" check ")
-        && io::print_decimal(STDOUT_FILENO, tables::wide(check))
+// Prints how the line of the last of so many blocks begins, up to its check.
+pub fn print_check(rt: &impl Print, blocks: u32, check: u32) -> Result<()> {
+    let calls = calls_in(blocks);
+    print!(rt; "(calls {calls} check {check}")
+}
+
+// Gives whether a line could be written whole; if not, that is told on standard error, in the program's words.
+pub fn is_whole(rt: &impl Eprint, line: Result<()>, failed: &str) -> bool {
+    match line {
+        Ok(()) => true,
+        Err(error) => {
+            streams::tell(rt, failed, error);
+            false
+        }
+    }
+}
+
+// Prints the line of the last of so many blocks.
+fn print_whole(rt: &impl Print, blocks: u32, check: u32) -> Result<()> {
+    print_check(rt, blocks, check)?;
+    println!(rt; ")")
 }
 
 // Prints the line of the last of so many blocks, and gives whether it could be written whole; if not, that is told on standard
 // error, in the program's words.
-pub fn print_line(blocks: u32, check: u32, failed: &[u8]) -> bool {
-    if print_check(blocks, check) && io::write_all(STDOUT_FILENO, b")\n") {
-        return true;
-    }
-    os::fail(failed);
-    false
+pub fn print_line(rt: &(impl Print + Eprint), blocks: u32, check: u32, failed: &str) -> bool {
+    is_whole(rt, print_whole(rt, blocks, check), failed)
 }
