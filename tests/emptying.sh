@@ -26,7 +26,7 @@ check() {
 arrays settings
 check "join, change and leave have tables lent to them" "$lent" -gt 0
 check "and no array of their own" "$all" = "$lent"
-arrays longrun
-check "such an array can be seen: longrun's tables are some" "$all" -gt "$lent"
+arrays streams
+check "such an array can be seen: streams has one, for the system's words" "$all" -gt "$lent"
 echo "$passed passed, $failed failed"
 [ "$failed" = 0 ]
