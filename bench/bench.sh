@@ -36,15 +36,13 @@ trap 'rm -rf "$temporary"' EXIT
 find_proved() {
     proved=("$here/stub.c")
     [ -z "$stub" ] || return 0
-    local name library said=$temporary/staticlib also
+    local name said=$temporary/library
     proved=()
     for name in bench emptying; do
-        library=target/staticlib/lib$name.a
-        RT_CUT=0 rt staticlib "$name" >"$said" 2>&1 || { cat "$said" >&2; exit 1; }
+        (cd "crates/${name}_c" && rt lib) >"$said" 2>&1 || { cat "$said" >&2; exit 1; }
         cat "$said" >&2
-        read -ra also < <(sed -n 's/.*; link \(.*\) beside it$/\1/p' "$said"; echo)
-        [ -f "$library" ] || { echo "bench.sh: no $library" >&2; exit 1; }
-        proved+=("$library" "${also[@]}")
+        cp "crates/${name}_c/out/lib${name}_c.a" "$out/lib$name.a"
+        proved+=("$out/lib$name.a")
     done
 }
 
@@ -193,7 +191,7 @@ program_instructions() {
 }
 
 scripts() {
-    rt check slots >"$temporary/check" 2>&1 || { cat "$temporary/check" >&2; exit 1; }
+    (cd crates/slots && rt run <../../examples/first.script) >"$temporary/check" 2>&1 || { cat "$temporary/check" >&2; exit 1; }
     gcc $flags "$here/programs.c" -o "$out/programs"
     echo "| 60,000 bytes of | slots µs | plain µs | ratio | slots instructions | plain | ratio | memset by stores: slots | plain | ratio |"
     echo "|---|---:|---:|---:|---:|---:|---:|---:|---:|---:|"
@@ -202,12 +200,12 @@ scripts() {
         "ticks with nobody" "lines without a form" "one line" "an empty script"; do
         script "$name" >"$text" || true # head stops reading before the end
         [ "$name" = "an empty script" ] || [ "$(wc -c <"$text")" = 60000 ] || { echo "bench.sh: no script of $name" >&2; exit 1; }
-        target/bin/slots <"$text" >"$temporary/proved"
+        crates/slots/out/slots <"$text" >"$temporary/proved"
         "$plain" <"$text" >"$temporary/plain"
         cmp "$temporary/proved" "$temporary/plain"
-        echo "$name|$("$out/programs" target/bin/slots "$plain" "$text" 500 | tr ' ' '|')|$(
-            program_instructions target/bin/slots "$text" "")|$(program_instructions "$plain" "$text" "")|$(
-            program_instructions target/bin/slots "$text" $by_stores)|$(program_instructions "$plain" "$text" $by_stores)"
+        echo "$name|$("$out/programs" crates/slots/out/slots "$plain" "$text" 500 | tr ' ' '|')|$(
+            program_instructions crates/slots/out/slots "$text" "")|$(program_instructions "$plain" "$text" "")|$(
+            program_instructions crates/slots/out/slots "$text" $by_stores)|$(program_instructions "$plain" "$text" $by_stores)"
     done | awk -F '|' '{ printf "| %s | %d | %d | %.2f | %d | %d | %.2f | %d | %d | %.2f |\n",
         $1, $2, $4, $2 / $4, $6, $7, $6 / $7, $8, $9, $8 / $9 }'
 }

@@ -2,7 +2,7 @@
 # Shows that the tests can fail: builds the second program with each fault of paper 01's list, with the plain remainder that S-1 of
 # paper 02 does away with, with the full buckets that its S-4 does away with, with two wrong figures for S-14, with three faults against
 # S-8, with three against S-6, with two against S-5 and with three against S-7, and runs the tests on it.
-#   tests/faults.sh BUILD CASES HANDLES    in the root of the repository, after the build of tests/run; needs target/bin/fair for the cases.
+#   tests/faults.sh BUILD CASES HANDLES    in the root of the repository, after the build of tests/run; needs crates/fair/out/fair for the cases.
 #                                          CASES and HANDLES are the folders of the edition's cases
 # `compare`, the cases and the long run must catch 1 to 6, 9 and 9b, `pairs` the first four (the others cannot be seen by pairs, see
 # src/pairs.rs), `stretches` all of these but 5b, for which it is not run: whether it sees that hangs on how many places an id has, since an
@@ -57,7 +57,7 @@ try() { # fault, test, caught or not seen, the test's arguments
 
 # The same for the cases, which say a line for each: of interest is the first that the planted program fails.
 try_cases() { # fault
-    "$build/cases" "$planted" target/bin/fair tests/cases/*.case "$edition"/*.case "$handles"/*.case >"$folder/cases.txt"
+    "$build/cases" "$planted" crates/fair/out/fair tests/cases/*.case "$edition"/*.case "$handles"/*.case >"$folder/cases.txt"
     case "$? $(grep -m 1 "^failed: .* of slots is" "$folder/cases.txt")" in
     "0 ") judge "$1" "the cases" "not seen" caught "$(tail -n 1 "$folder/cases.txt")" ;;
     "1 failed: "*) judge "$1" "the cases" caught caught "$(sed -n "s/^failed: //p" "$folder/cases.txt" | head -n 1)" ;;
