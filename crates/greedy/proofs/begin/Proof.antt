@@ -11,5 +11,5 @@ returns : tie.Need-returns
 unfolding begun
 returns c = let first = c.begin.ensures in record { run = λ t. rw (first.run t); valid = first.valid }
 
-pub begin-spec : {M : Type 1} → statement M
-begin-spec = tie.close (tie.spec begin-requires returns)
+pub begin_spec : {M : Type 1} → statement M
+begin_spec = tie.close (tie.spec begin-requires returns)

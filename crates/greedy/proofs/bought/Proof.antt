@@ -11,5 +11,5 @@ returns : tie.Need-returns
 unfolding bought
 returns c = c.tokens.ensures.0
 
-pub bought-spec : {M : Type 1} → statement M
-bought-spec = tie.close (tie.spec tokens-requires returns)
+pub bought_spec : {M : Type 1} → statement M
+bought_spec = tie.close (tie.spec tokens-requires returns)

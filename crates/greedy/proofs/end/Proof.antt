@@ -13,27 +13,27 @@ wide-requires c κs = search rules
 bought-requires : tie.Need-bought-requires
 bought-requires c κs = search rules
 
-rise-requires-2 : tie.Need-rise-requires-2
-rise-requires-2 c κs = search rules
+rise-requires-then-wide-bought : tie.Need-rise-requires-then-wide-bought
+rise-requires-then-wide-bought c κs = search rules
 
-returns : tie.Need-returns
+returns-then-wide-bought : tie.Need-returns-then-wide-bought
 unfolding ended
-returns c =
+returns-then-wide-bought c =
     let b = c.before.before in
-    let same = sym b.before.wide.ensures.0 ∙ c.before.if1.true ∙ b.bought.ensures in
-    rw (b.before.before.rise.ensures, c.rise2.ensures, eq-eqb _ _ same)
+    let same = sym b.before.wide.ensures.0 ∙ c.before.if-wide-bought.true ∙ b.bought.ensures in
+    rw (b.before.before.rise.ensures, c.rise-then-wide-bought.ensures, eq-eqb _ _ same)
 
-returns_2 : tie.Need-returns-2
+returns-else-wide-bought : tie.Need-returns-else-wide-bought
 unfolding ended
-returns_2 c =
+returns-else-wide-bought c =
     let b = c.before in
     let k = b.before.before.before.args.counts in
     rw (
       b.before.before.rise.ensures,
-      ne_eqb k.accepted (bought k) (λ e. c.if1.false (b.before.wide.ensures.0 ∙ e ∙ sym b.bought.ensures)),
+      ne_eqb k.accepted (bought k) (λ e. c.if-wide-bought.false (b.before.wide.ensures.0 ∙ e ∙ sym b.bought.ensures)),
     )
 
-pub end-spec : {M : Type 1} → statement M
-end-spec =
+pub end_spec : {M : Type 1} → statement M
+end_spec =
     tie.close
-    (tie.spec rise-requires wide-requires bought-requires rise-requires-2 returns returns_2)
+    (tie.spec rise-requires wide-requires bought-requires rise-requires-then-wide-bought returns-then-wide-bought returns-else-wide-bought)

@@ -4,12 +4,12 @@ use Rattle.greedy.specs.Phases.{joined}
 use Rattle.greedy.proofs.join.Statement.{statement}
 use Rattle.greedy.proofs.join.Tie as tie
 
-rate-from-requires : tie.Need-rate-from-requires
-rate-from-requires c κs = search rules
+rate_from-requires : tie.Need-rate_from-requires
+rate_from-requires c κs = search rules
 
 returns : tie.Need-returns
 unfolding joined
-returns c = rw c.rate-from.ensures
+returns c = rw c.rate_from.ensures
 
-pub join-spec : {M : Type 1} → statement M
-join-spec = tie.close (tie.spec rate-from-requires returns)
+pub join_spec : {M : Type 1} → statement M
+join_spec = tie.close (tie.spec rate_from-requires returns)

@@ -8,28 +8,28 @@ use Rattle.greedy.specs.GreedyRun.{level_in}
 use Rattle.greedy.proofs.level_of.Statement.{statement}
 use Rattle.greedy.proofs.level_of.Tie as tie
 
-returns : tie.Need-returns
+returns-then-not-control : tie.Need-returns-then-not-control
 unfolding level_in core_of
-returns c stocks handles lengths links counts = rw (not-true c.before.before.args.control.opened c.if1.true)
+returns-then-not-control c stocks handles lengths links counts = rw (not-true c.before.before.args.control.opened c.if-not-control.true)
 
-add-result : tie.Need-overflow-add-result
-add-result c = search rules
+overflow_add-result : tie.Need-overflow_add-result
+overflow_add-result c = search rules
 
-cast-result : tie.Need-overflow-cast-result
-cast-result c = search rules
+overflow_cast-result : tie.Need-overflow_cast-result
+overflow_cast-result c = search rules
 
-mul-result : tie.Need-overflow-mul-result
-mul-result c = search rules
+offset_bounds-terms : tie.Need-offset_bounds-terms
+offset_bounds-terms c = search rules
 
-element-copy-out-result : tie.Need-element-copy-out-result
-element-copy-out-result c = search rules
+bounds-terms : tie.Need-bounds-terms
+bounds-terms c = search rules
 
-returns_2 : tie.Need-returns-2
+returns : tie.Need-returns
 unfolding level_in core_of state_of clients_of client_at field ids
-returns_2 c stocks handles lengths links counts =
-    rw (not-false c.before.before.before.args.control.opened c.before.if1.false)
+returns c stocks handles lengths links counts =
+    rw (not-false c.before.before.before.args.control.opened c.before.if-not-control.false)
 
-pub level-of-spec : {M : Type 1} → statement M
-level-of-spec =
+pub level_of_spec : {M : Type 1} → statement M
+level_of_spec =
     tie.close
-    (tie.spec returns add-result cast-result mul-result element-copy-out-result returns_2)
+    (tie.spec returns-then-not-control overflow_add-result overflow_cast-result offset_bounds-terms bounds-terms returns)

@@ -4,13 +4,13 @@ use Rattle.greedy.specs.Phases.{paused}
 use Rattle.greedy.proofs.pause.Statement.{statement}
 use Rattle.greedy.proofs.pause.Tie as tie
 
-returns : tie.Need-returns
+returns-then-d-eq0 : tie.Need-returns-then-d-eq0
 unfolding paused
-returns c = rw (eq-eqb _ _ c.if1.true)
+returns-then-d-eq0 c = rw (eq-eqb _ _ c.if-d-eq0.true)
 
-returns_2 : tie.Need-returns-2
+returns-else-d-eq0 : tie.Need-returns-else-d-eq0
 unfolding paused
-returns_2 c = rw (ne_eqb _ _ c.if1.false)
+returns-else-d-eq0 c = rw (ne_eqb _ _ c.if-d-eq0.false)
 
 pub pause_spec : {M : Type 1} → statement M
-pause_spec = tie.close (tie.spec returns returns_2)
+pause_spec = tie.close (tie.spec returns-then-d-eq0 returns-else-d-eq0)

@@ -5,12 +5,12 @@ use Rattle.greedy.specs.Phases.{rate_from}
 use Rattle.greedy.proofs.rate_from.Statement.{statement}
 use Rattle.greedy.proofs.rate_from.Tie as tie
 
-add-result : tie.Need-overflow-add-result
-add-result c = search rules
+overflow_add-result : tie.Need-overflow_add-result
+overflow_add-result c = search rules
 
 returns : tie.Need-returns
 unfolding rate_from shares
 returns c = refl
 
-pub rate-from-spec : {M : Type 1} → statement M
-rate-from-spec = tie.close (tie.spec add-result returns)
+pub rate_from_spec : {M : Type 1} → statement M
+rate_from_spec = tie.close (tie.spec overflow_add-result returns)

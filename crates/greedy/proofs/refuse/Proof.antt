@@ -7,17 +7,17 @@ use Rattle.greedy.proofs.refuse.Tie as tie
 end-requires : tie.Need-end-requires
 end-requires c κs = search rules
 
-returns : tie.Need-returns
+returns-then-number-eq-NO_TOKEN : tie.Need-returns-then-number-eq-NO_TOKEN
 unfolding refused_with
-returns c = rw (c.end.ensures, eq-eqb _ _ c.before.if1.true)
+returns-then-number-eq-NO_TOKEN c = rw (c.end.ensures, eq-eqb _ _ c.before.if-number-eq-NO_TOKEN.true)
 
-returns_2 : tie.Need-returns-2
+returns-then-number-eq-NO_PLACE : tie.Need-returns-then-number-eq-NO_PLACE
 unfolding refused_with
-returns_2 c = rw (ne_eqb _ _ c.before.if1.false, eq-eqb _ _ c.if2.true)
+returns-then-number-eq-NO_PLACE c = rw (ne_eqb _ _ c.before.if-number-eq-NO_TOKEN.false, eq-eqb _ _ c.if-number-eq-NO_PLACE.true)
 
-returns-3 : tie.Need-returns-3
+returns-else-number-eq-NO_PLACE : tie.Need-returns-else-number-eq-NO_PLACE
 unfolding refused_with
-returns-3 c = rw (ne_eqb _ _ c.before.if1.false, ne_eqb _ _ c.if2.false)
+returns-else-number-eq-NO_PLACE c = rw (ne_eqb _ _ c.before.if-number-eq-NO_TOKEN.false, ne_eqb _ _ c.if-number-eq-NO_PLACE.false)
 
-pub refuse-spec : {M : Type 1} → statement M
-refuse-spec = tie.close (tie.spec end-requires returns returns_2 returns-3)
+pub refuse_spec : {M : Type 1} → statement M
+refuse_spec = tie.close (tie.spec end-requires returns-then-number-eq-NO_TOKEN returns-then-number-eq-NO_PLACE returns-else-number-eq-NO_PLACE)

@@ -4,12 +4,12 @@ use Rattle.greedy.specs.Phases.{risen}
 use Rattle.greedy.proofs.rise.Statement.{statement}
 use Rattle.greedy.proofs.rise.Tie as tie
 
-wrapping-add-u32-requires : tie.Need-wrapping-add-u32-requires
-wrapping-add-u32-requires c κs = search rules
+wrapping_add_u32-requires : tie.Need-wrapping_add_u32-requires
+wrapping_add_u32-requires c κs = search rules
 
 returns : tie.Need-returns
 unfolding risen
-returns c = c.wrapping-add-u32.ensures
+returns c = c.wrapping_add_u32.ensures
 
-pub rise-spec : {M : Type 1} → statement M
-rise-spec = tie.close (tie.spec wrapping-add-u32-requires returns)
+pub rise_spec : {M : Type 1} → statement M
+rise_spec = tie.close (tie.spec wrapping_add_u32-requires returns)

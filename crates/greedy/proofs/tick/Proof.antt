@@ -7,13 +7,13 @@ use Rattle.greedy.proofs.tick.Tie as tie
 rise-requires : tie.Need-rise-requires
 rise-requires c κs = search rules
 
-returns : tie.Need-returns
+returns-then-d-eq0 : tie.Need-returns-then-d-eq0
 unfolding ticked
-returns c = rw (c.before.rise.ensures, eq-eqb _ _ c.if1.true)
+returns-then-d-eq0 c = rw (c.before.rise.ensures, eq-eqb _ _ c.if-d-eq0.true)
 
-returns_2 : tie.Need-returns-2
+returns-else-d-eq0 : tie.Need-returns-else-d-eq0
 unfolding ticked
-returns_2 c = rw (c.before.rise.ensures, ne_eqb _ _ c.if1.false)
+returns-else-d-eq0 c = rw (c.before.rise.ensures, ne_eqb _ _ c.if-d-eq0.false)
 
-pub tick-spec : {M : Type 1} → statement M
-tick-spec = tie.close (tie.spec rise-requires returns returns_2)
+pub tick_spec : {M : Type 1} → statement M
+tick_spec = tie.close (tie.spec rise-requires returns-then-d-eq0 returns-else-d-eq0)
