@@ -1,7 +1,7 @@
 -- Every place where no packet waits is overwritten: one that is fewer places behind the head than the queue has packets is among
 -- those of the queue. By recursion over the queue's ring, and over the places. Assumes nothing.
 use Prim.Native.Nat.{ℕ, zero, suc, ◌+◌, ◌-◌, ◌/◌, ◌%◌, ◌<◌}
-use mathlib.Core.Path.{◌≡◌, refl, ap, ◌∙◌}
+use mathlib.Core.Path.{◌≡◌, refl, ap, subst, ◌∙◌}
 use mathlib.Core.Logic.{◌≢◌}
 use mathlib.Core.Bool.{Bool, true, false, cond}
 use mathlib.Core.List.{List}
@@ -31,7 +31,7 @@ ring_has id head (suc n) zero l absent =
     absent.0 (ap (place_of id) none)
 ring_has id head (suc n) (suc k) l absent =
     let next : head + suc k ≡ suc head + k = omega arith in
-    ring_has id (suc head) n k (omega arith) (rw next at absent.1)
+    ring_has id (suc head) n k (omega arith) (subst (λ x. Absent (place_of id x) (ring id (suc head) n)) next absent.1)
 
 place_nth : (place head : ℕ) → place_of (place / places) (head + (place % places + (places - head % places)) % places) ≡ place
 unfolding places

@@ -8,45 +8,45 @@ use Rattle.remains.specs.Remains.{waits_at, overwritten_at}
 use Rattle.remains.proofs.overwrite_at.Statement.{statement}
 use Rattle.remains.proofs.overwrite_at.Tie as tie
 
-waits-at-requires : tie.Need-waits-at-requires
-waits-at-requires c κs = search rules
+waits_at-requires : tie.Need-waits_at-requires
+waits_at-requires c κs = search rules
+
+returns-then-waits_at : tie.Need-returns-then-waits_at
+unfolding overwritten_at
+returns-then-waits_at c =
+    let a = c.before.before.args in
+    let waits : waits_at a.stocks.now a.place ≡ true = sym c.before.waits_at.ensures ∙ c.if-waits_at.true in
+    (rw waits, rw waits)
+
+offset_bounds-handles-at : tie.Need-offset_bounds-handles-at
+offset_bounds-handles-at c = search rules
+
+bounds-handles-at : tie.Need-bounds-handles-at
+unfolding ids places sentinel
+bounds-handles-at c = search rules
+
+offset_bounds-lengths-at : tie.Need-offset_bounds-lengths-at
+offset_bounds-lengths-at c = search rules
+
+bounds-lengths-at : tie.Need-bounds-lengths-at
+unfolding ids places sentinel
+bounds-lengths-at c = search rules
 
 returns : tie.Need-returns
 unfolding overwritten_at
 returns c =
     let a = c.before.before.args in
-    let waits : waits_at a.stocks.now a.place ≡ true = sym c.before.waits-at.ensures ∙ c.if1.true in
-    (rw waits, rw waits)
-
-mul-handles : tie.Need-overflow-mul-handles
-mul-handles c = search rules
-
-element-write-handles : tie.Need-element-write-handles
-unfolding ids places sentinel
-element-write-handles c = search rules
-
-mul-lengths : tie.Need-overflow-mul-lengths
-mul-lengths c = search rules
-
-element-write-lengths : tie.Need-element-write-lengths
-unfolding ids places sentinel
-element-write-lengths c = search rules
-
-returns_2 : tie.Need-returns-2
-unfolding overwritten_at
-returns_2 c =
-    let a = c.before.before.args in
-    let none : waits_at a.stocks.now a.place ≡ false = sym c.before.waits-at.ensures ∙ c.if1.false in
+    let none : waits_at a.stocks.now a.place ≡ false = sym c.before.waits_at.ensures ∙ c.if-waits_at.false in
     (rw none, rw none)
 
-pub overwrite-at-spec : {M : Type 1} → statement M
-overwrite-at-spec =
+pub overwrite_at_spec : {M : Type 1} → statement M
+overwrite_at_spec =
     tie.close
     (tie.spec
-    waits-at-requires
-    returns
-    mul-handles
-    element-write-handles
-    mul-lengths
-    element-write-lengths
-    returns_2)
+    waits_at-requires
+    returns-then-waits_at
+    offset_bounds-handles-at
+    bounds-handles-at
+    offset_bounds-lengths-at
+    bounds-lengths-at
+    returns)

@@ -11,55 +11,55 @@ use Rattle.remains.specs.Remains.{overwritten_at, overwritten_below, overwritten
 use Rattle.remains.proofs.overwrite_unused.Statement.{statement}
 use Rattle.remains.proofs.overwrite_unused.Tie as tie
 
-abbrev invariant-loop : tie.invariant-loop
-invariant-loop stocks handles₀ lengths₀ handle length place₀ handles lengths place =
+abbrev invariant-loop-place : tie.invariant-loop-place
+invariant-loop-place stocks handles₀ lengths₀ handle length place₀ handles lengths place =
     (place ≤ sentinel)
     × (handles ≡ overwritten_below place stocks handle handles₀)
     × (lengths ≡ overwritten_below place stocks length lengths₀)
 
-abbrev decreases-loop : tie.decreases-loop
-decreases-loop stocks handles₀ lengths₀ handle length place₀ handles lengths place = sentinel - place
+abbrev decreases-loop-place : tie.decreases-loop-place
+decreases-loop-place stocks handles₀ lengths₀ handle length place₀ handles lengths place = sentinel - place
 
-loop-holds : tie.Need-loop-init invariant-loop decreases-loop
+loop-place-init : tie.Need-loop-place-init invariant-loop-place decreases-loop-place
 unfolding overwritten_below
-loop-holds c = search rules
+loop-place-init c = search rules
 
-overwrite-at-requires : tie.Need-overwrite-at-requires invariant-loop decreases-loop
+overwrite_at-requires : tie.Need-overwrite_at-requires invariant-loop-place decreases-loop-place
 unfolding sentinel ids places
-overwrite-at-requires c κs = search rules
+overwrite_at-requires c κs = search rules
 
-add-place : tie.Need-overflow-add-place invariant-loop decreases-loop
+overflow_add-place : tie.Need-overflow_add-place invariant-loop-place decreases-loop-place
 unfolding sentinel ids places
-add-place c = search rules
+overflow_add-place c = search rules
 
-loop-less : tie.Need-loop-smaller invariant-loop decreases-loop
+loop-place-smaller : tie.Need-loop-place-smaller invariant-loop-place decreases-loop-place
 unfolding sentinel ids places
-loop-less c = search rules
+loop-place-smaller c = search rules
 
-loop-again : tie.Need-loop-preserved invariant-loop decreases-loop
+loop-place-preserved : tie.Need-loop-place-preserved invariant-loop-place decreases-loop-place
 unfolding sentinel ids places overwritten_below
-loop-again c =
+loop-place-preserved c =
     let at = c.before.before.before.before in (
       omega arith,
-      rw add-one (c.overwrite-at.ensures.0 ∙ ap (overwritten_at _ _ _) at.loop.invariant.1),
-      rw add-one (c.overwrite-at.ensures.1 ∙ ap (overwritten_at _ _ _) at.loop.invariant.2),
+      rw add-one (c.overwrite_at.ensures.0 ∙ ap (overwritten_at _ _ _) at.loop-place.invariant.1),
+      rw add-one (c.overwrite_at.ensures.1 ∙ ap (overwritten_at _ _ _) at.loop-place.invariant.2),
     )
 
-returns : tie.Need-returns invariant-loop decreases-loop
+returns : tie.Need-returns invariant-loop-place decreases-loop-place
 unfolding sentinel ids places overwritten_unused
 returns c =
-    let all : c.before.loop.place ≡ sentinel = omega arith in
-    (rw all at c.before.loop.invariant.1, rw all at c.before.loop.invariant.2)
+    let all : c.before.loop-place.place ≡ sentinel = omega arith in
+    (rw all at c.before.loop-place.invariant.1, rw all at c.before.loop-place.invariant.2)
 
-pub overwrite-unused-spec : {M : Type 1} → statement M
-overwrite-unused-spec =
+pub overwrite_unused_spec : {M : Type 1} → statement M
+overwrite_unused_spec =
     tie.close
     (tie.spec
-    invariant-loop
-    decreases-loop
-    loop-holds
-    overwrite-at-requires
-    add-place
-    loop-less
-    loop-again
+    invariant-loop-place
+    decreases-loop-place
+    loop-place-init
+    overwrite_at-requires
+    overflow_add-place
+    loop-place-smaller
+    loop-place-preserved
     returns)

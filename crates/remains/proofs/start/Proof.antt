@@ -7,25 +7,25 @@ use Rattle.remains.proofs.start.Tie as tie
 begin-requires : tie.Need-begin-requires
 begin-requires c κs = search rules
 
+returns-then-earlier-eq0 : tie.Need-returns-then-earlier-eq0
+returns-then-earlier-eq0 c = starts_unopened c.before.if-earlier-eq0.true c.begin.ensures
+
+begin-first-requires : tie.Need-begin-first-requires
+begin-first-requires c κs = search rules
+
+calls-left-requires : tie.Need-calls-left-requires
+calls-left-requires c κs = c.before.before.before.before.before.before.begin-first.ensures.valid _
+
+begin-anew-requires : tie.Need-begin-anew-requires
+begin-anew-requires c κs = search rules
+
 returns : tie.Need-returns
-returns c = starts_unopened c.before.if1.true c.begin.ensures
-
-begin-requires-2 : tie.Need-begin-requires-2
-begin-requires-2 c κs = search rules
-
-calls-requires : tie.Need-calls-requires
-calls-requires c κs = c.before.before.before.before.before.before.begin2.ensures.valid _
-
-begin-requires-3 : tie.Need-begin-requires-3
-begin-requires-3 c κs = search rules
-
-returns_2 : tie.Need-returns-2
-returns_2 c =
+returns c =
     let made = c.before.before in
     let begun = made.before.before.before.before.before.before.before in
-    starts-behind begun.before.if1.false begun.begin2.ensures made.calls.ensures c.begin3.ensures
+    starts-behind begun.before.if-earlier-eq0.false begun.begin-first.ensures made.calls-left.ensures c.begin-anew.ensures
 
 pub start_spec : {M : Type 1} → statement M
 start_spec =
     tie.close
-    (tie.spec begin-requires returns begin-requires-2 calls-requires begin-requires-3 returns_2)
+    (tie.spec begin-requires returns-then-earlier-eq0 begin-first-requires calls-left-requires begin-anew-requires returns)

@@ -8,56 +8,56 @@ use Rattle.remains.specs.Remains.{behind_head, waits_at}
 use Rattle.remains.proofs.waits_at.Statement.{statement}
 use Rattle.remains.proofs.waits_at.Tie as tie
 
-add-head : tie.Need-overflow-add-head
+overflow_add-head : tie.Need-overflow_add-head
 unfolding ids places sentinel
-add-head c = search rules
+overflow_add-head c = search rules
 
-cast-head : tie.Need-overflow-cast-head
-cast-head c = search rules
+overflow_cast-head : tie.Need-overflow_cast-head
+overflow_cast-head c = search rules
 
-mul-head : tie.Need-overflow-mul-head
-mul-head c = search rules
+offset_bounds-stocks-id : tie.Need-offset_bounds-stocks-id
+offset_bounds-stocks-id c = search rules
 
-element-copy-out-head : tie.Need-element-copy-out-head
+bounds-stocks-id : tie.Need-bounds-stocks-id
 unfolding ids places sentinel
-element-copy-out-head c = search rules
+bounds-stocks-id c = search rules
 
-add-count : tie.Need-overflow-add-count
+overflow_add-count : tie.Need-overflow_add-count
 unfolding ids places sentinel
-add-count c = search rules
+overflow_add-count c = search rules
 
-cast-count : tie.Need-overflow-cast-count
-cast-count c = search rules
+overflow_cast-count : tie.Need-overflow_cast-count
+overflow_cast-count c = search rules
 
-mul-count : tie.Need-overflow-mul-count
-mul-count c = search rules
+offset_bounds-stocks-id-2 : tie.Need-offset_bounds-stocks-id-2
+offset_bounds-stocks-id-2 c = search rules
 
-element-copy-out-count : tie.Need-element-copy-out-count
+bounds-stocks-id-2 : tie.Need-bounds-stocks-id-2
 unfolding ids places sentinel
-element-copy-out-count c = search rules
+bounds-stocks-id-2 c = search rules
 
-sub-behind : tie.Need-overflow-sub-behind
-sub-behind c = search rules
+overflow_sub-behind : tie.Need-overflow_sub-behind
+overflow_sub-behind c = search rules
 
-add-behind : tie.Need-overflow-add-behind
-add-behind c = search rules
+overflow_add-behind : tie.Need-overflow_add-behind
+overflow_add-behind c = search rules
 
 returns : tie.Need-returns
 unfolding waits_at behind_head owner field ids places
 returns c = search rules
 
-pub waits-at-spec : {M : Type 1} → statement M
-waits-at-spec =
+pub waits_at_spec : {M : Type 1} → statement M
+waits_at_spec =
     tie.close
     (tie.spec
-    add-head
-    cast-head
-    mul-head
-    element-copy-out-head
-    add-count
-    cast-count
-    mul-count
-    element-copy-out-count
-    sub-behind
-    add-behind
+    overflow_add-head
+    overflow_cast-head
+    offset_bounds-stocks-id
+    bounds-stocks-id
+    overflow_add-count
+    overflow_cast-count
+    offset_bounds-stocks-id-2
+    bounds-stocks-id-2
+    overflow_sub-behind
+    overflow_add-behind
     returns)
