@@ -2,16 +2,27 @@
 # Emptying a queue makes no buffer (paper 02, S-3). That the tables which are lent stand is proved; this looks for tables that are not lent:
 # no function of `settings`, nor one that it stands on, has an array of its own, as a local or in a struct, so there is none to fill or to copy.
 #   tests/emptying.sh    in the root of the repository; needs rt
-# In what `rt mir` prints every type that is an array is '(tyArray ..', and a lent one stands behind '(tyRef ..' or '(deref'.
+# In the code of a function, as `rt check --generated` writes it, every type that is an array is 'ty_array ..', and a lent one stands behind
+# 'ty_ref ..' or 'deref'.
 passed=0 failed=0
 folder=$(mktemp -d)
 trap 'rm -rf "$folder"' EXIT
 
-# arrays CRATE: sets 'all' and 'lent', how often the code of a crate, and of what it stands on, names an array, and one that is lent
+# arrays CRATE..: sets 'all' and 'lent', how often the code of these crates names an array, and one that is lent, and 'functions' and 'written', how
+# many functions they have, and of how many there is the code
 arrays() {
-    rt mir "$1" >"$folder/mir" 2>"$folder/said" || cat "$folder/said" >&2
-    all=$(grep -oF '(tyArray' "$folder/mir" | wc -l)
-    lent=$(grep -oE '\((deref|tyRef (\(named [0-9]+\)|erased) (mut|imm)) \(tyArray' "$folder/mir" | wc -l)
+    local crate start
+    functions=0 written=0
+    for crate in "$@"; do
+        mapfile -t start < <(grep -hoE '^ *(pub )?fn [a-z0-9_]+' "crates/$crate"/src/*.rt | sed 's/.*fn //; s/^/--start=/')
+        functions=$((functions + ${#start[@]}))
+        [ ${#start[@]} = 0 ] || (cd "crates/$crate" && rt check --generated "$folder/$crate" "${start[@]}") >"$folder/said" 2>&1 ||
+            cat "$folder/said" >&2
+        written=$((written + $(find "$folder/$crate" -path '*/Code/Mir.antt' 2>/dev/null | wc -l)))
+    done
+    (cd "$folder" && find "$@" -path '*/Code/Mir.antt' -exec cat {} + 2>/dev/null) | tr -s '[:space:]' ' ' >"$folder/code"
+    all=$(grep -oE '[( ][^( ]*ty_array ' "$folder/code" | wc -l)
+    lent=$(grep -oE '[( ][^( ]*(deref|ty_ref (\([^( ]*named [0-9]+\)|[^( ]*erased) [^( ]*(mut|imm)) \([^( ]*ty_array ' "$folder/code" | wc -l)
 }
 
 # check NAME TEST..
@@ -23,7 +34,8 @@ check() {
     fi
 }
 
-arrays settings
+arrays $(sed -n 's/^settings: //p' crates.txt) settings
+check "the code of $functions functions is looked through" "$written" = "$functions" -a "$functions" -gt 0
 check "join, change and leave have tables lent to them" "$lent" -gt 0
 check "and no array of their own" "$all" = "$lent"
 arrays streams
