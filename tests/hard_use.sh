@@ -1,6 +1,6 @@
 #!/bin/bash
 # `slots`, with `--sure N`, `--operator`, `--tenant I` and `--counts` and without, and `fair`, where their surroundings fail: the program ends, and
-# says on standard error what went wrong, unless the system ends it by a signal. What it printed is a beginning of the printout, or nothing; where
+# says on standard error what went wrong. What it printed is a beginning of the printout, or nothing; where
 # the output takes a part of it and then no more, the last answer may be cut. Of any other arguments it says so, and reads and prints nothing.
 #   tests/hard_use.sh SLOTS FAIR    in the root of the repository; needs rustc
 slots=$1 fair=$2 passed=0 failed=0
