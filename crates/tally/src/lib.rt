@@ -1,7 +1,7 @@
 // What the programs of long runs share: the line that they print after each block.
 #![tactic(auto)]
 
-ghost use Rattle.std.specs.Prelude.{◌≡◌, ◌*◌};
+ghost use Rattle.std.specs.Prelude.{◌≡◌, ◌*◌, is_ok};
 ghost use Rattle.runs.specs.LongRun.{block};
 
 use std::io::Result;
@@ -22,7 +22,9 @@ pub fn print_check(rt: &impl Print, blocks: u32, check: u32) -> Result<()> {
 }
 
 // Gives whether a line could be written whole; if not, that is told on standard error, in the program's words.
-pub fn is_whole(rt: &impl Eprint, line: Result<()>, failed: &str) -> bool {
+pub fn is_whole(rt: &impl Eprint, line: Result<()>, failed: &str) -> bool
+    ensures { result ≡ is_ok line }
+{
     match line {
         Ok(()) => true,
         Err(error) => {
