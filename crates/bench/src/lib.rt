@@ -72,28 +72,22 @@ fn outcome_code(outcome: Outcome) -> u64 {
 // Joins the ids from the first up to the end, each with the same terms.
 fn join_ids(
     control: Control,
-    terms: &mut [u32; TERMS],
-    stocks: &mut [u32; STOCKS],
-    handles: &[u64; STORE],
-    lengths: &[u16; STORE],
-    links: &[u32; LINKS],
-    counts: &mut [u64; COUNTS],
+    tables: &mut Tables,
     first: u32,
     end: u32,
     kind: u32,
     rate: u32,
     burst: u32,
 ) -> Control
-    requires { Valid control (tables terms.old stocks.old handles.now lengths.now links.now counts.old) }
+    requires { Valid control tables.old }
     ensures { Valid result
-        (tables terms.new stocks.new handles.now lengths.now links.now
-        counts.new) }
+        tables.new }
 {
     let mut at = control;
     let mut id = first;
     while id < end {
         let r = settings::join(
-            at, terms, stocks, handles, lengths, links, counts, id, kind, rate, burst,
+            at, tables, id, kind, rate, burst,
         );
         at = r.control;
         id += 1;
@@ -104,18 +98,12 @@ fn join_ids(
 // Puts some packets into one queue.
 fn fill_queue(
     control: Control,
-    terms: &mut [u32; TERMS],
-    stocks: &mut [u32; STOCKS],
-    handles: &mut [u64; STORE],
-    lengths: &mut [u16; STORE],
-    links: &mut [u32; LINKS],
-    counts: &mut [u64; COUNTS],
+    tables: &mut Tables,
     id: u32,
     each: u32,
 ) -> Control
-    requires { Valid control (tables terms.old stocks.old handles.old lengths.old links.old counts.old) }
-    ensures { Valid result (tables terms.new stocks.new handles.new lengths.new links.new
-        counts.new) }
+    requires { Valid control tables.old }
+    ensures { Valid result tables.new }
 {
     let mut at = control;
     let mut k: u32 = 0;
@@ -125,7 +113,7 @@ fn fill_queue(
             length: 64,
         };
         let r = traffic::arrive(
-            at, terms, stocks, handles, lengths, links, counts, id, packet,
+            at, tables, id, packet,
         );
         at = r.control;
         k += 1;
@@ -136,23 +124,17 @@ fn fill_queue(
 // Puts some packets into each queue, one client after the other.
 fn fill_queues(
     control: Control,
-    terms: &mut [u32; TERMS],
-    stocks: &mut [u32; STOCKS],
-    handles: &mut [u64; STORE],
-    lengths: &mut [u16; STORE],
-    links: &mut [u32; LINKS],
-    counts: &mut [u64; COUNTS],
+    tables: &mut Tables,
     n: u32,
     each: u32,
 ) -> Control
-    requires { Valid control (tables terms.old stocks.old handles.old lengths.old links.old counts.old) }
-    ensures { Valid result (tables terms.new stocks.new handles.new lengths.new links.new
-        counts.new) }
+    requires { Valid control tables.old }
+    ensures { Valid result tables.new }
 {
     let mut at = control;
     let mut id: u32 = 0;
     while id < n {
-        at = fill_queue(at, terms, stocks, handles, lengths, links, counts, id, each);
+        at = fill_queue(at, tables, id, each);
         id += 1;
     }
     at
@@ -191,41 +173,35 @@ fn packet(handle: u32, length: u32) -> Packet {
 // are for the same id, so that it cannot work out beforehand, or once for both, whether an id is too large.
 fn refused_round(
     control: Control,
-    terms: &mut [u32; TERMS],
-    stocks: &mut [u32; STOCKS],
-    handles: &mut [u64; STORE],
-    lengths: &mut [u16; STORE],
-    links: &mut [u32; LINKS],
-    counts: &mut [u64; COUNTS],
+    tables: &mut Tables,
     id: u32,
     other: u32,
     beyond: u32,
     k: u32,
     sum: u64,
 ) -> Tally
-    requires { Valid control (tables terms.old stocks.old handles.old lengths.old links.old counts.old) × (beyond ≤ 64) }
+    requires { Valid control tables.old × (beyond ≤ 64) }
     ensures { Valid result.control
-        (tables terms.new stocks.new handles.new lengths.new links.new
-        counts.new) }
+        tables.new }
 {
     let no_sender = beyond + k % 8;
     let no_loader = beyond + k % 4;
     let right = packet(k, 64);
     let short = packet(k, 63);
     let a = traffic::arrive(
-        control, terms, stocks, handles, lengths, links, counts, no_sender, right,
+        control, tables, no_sender, right,
     );
     let first = a.answer;
     let b = traffic::load(
-        a.control, terms, stocks, handles, lengths, links, counts, no_loader, k,
+        a.control, tables, no_loader, k,
     );
     let second = b.answer;
     let c = settings::join(
-        b.control, terms, stocks, handles, lengths, links, counts, id, 2, 1, 0,
+        b.control, tables, id, 2, 1, 0,
     );
     let third = c.answer;
     let d = traffic::arrive(
-        c.control, terms, stocks, handles, lengths, links, counts, other, short,
+        c.control, tables, other, short,
     );
     let fourth = d.answer;
     let last = d.control;
@@ -237,21 +213,15 @@ fn refused_round(
 
 fn refused_rounds(
     control: Control,
-    terms: &mut [u32; TERMS],
-    stocks: &mut [u32; STOCKS],
-    handles: &mut [u64; STORE],
-    lengths: &mut [u16; STORE],
-    links: &mut [u32; LINKS],
-    counts: &mut [u64; COUNTS],
+    tables: &mut Tables,
     n: u32,
     beyond: u32,
     rounds: u32,
 ) -> Tally
-    requires { Valid control (tables terms.old stocks.old handles.old lengths.old links.old counts.old) × (1 ≤ n)
+    requires { Valid control tables.old × (1 ≤ n)
         × (beyond ≤ 64) }
     ensures { Valid result.control
-        (tables terms.new stocks.new handles.new lengths.new links.new
-        counts.new) }
+        tables.new }
 {
     let mut at = Tally { control, sum: 0 };
     let mut id: u32 = 0;
@@ -259,7 +229,7 @@ fn refused_rounds(
     while k < rounds {
         let other = next(id, n);
         at = refused_round(
-            at.control, terms, stocks, handles, lengths, links, counts, id, other, beyond, k,
+            at.control, tables, id, other, beyond, k,
             at.sum,
         );
         id = other;
@@ -271,30 +241,24 @@ fn refused_rounds(
 // One arrival and one tick.
 fn traffic_round(
     control: Control,
-    terms: &mut [u32; TERMS],
-    stocks: &mut [u32; STOCKS],
-    handles: &mut [u64; STORE],
-    lengths: &mut [u16; STORE],
-    links: &mut [u32; LINKS],
-    counts: &mut [u64; COUNTS],
+    tables: &mut Tables,
     id: u32,
     k: u32,
     sum: u64,
 ) -> Tally
-    requires { Valid control (tables terms.old stocks.old handles.old lengths.old links.old counts.old) }
+    requires { Valid control tables.old }
     ensures { Valid result.control
-        (tables terms.new stocks.new handles.new lengths.new links.new
-        counts.new) }
+        tables.new }
 {
     let packet = Packet {
         handle: k as u64,
         length: 64 + k % 1024,
     };
     let a = traffic::arrive(
-        control, terms, stocks, handles, lengths, links, counts, id, packet,
+        control, tables, id, packet,
     );
     let first = a.answer;
-    let ticked = slot::tick(a.control, terms, stocks, handles, lengths, links, counts);
+    let ticked = slot::tick(a.control, tables);
     let b = ticked.answered;
     let second = b.answer;
     let last = b.control;
@@ -306,27 +270,21 @@ fn traffic_round(
 
 pub fn traffic_rounds(
     control: Control,
-    terms: &mut [u32; TERMS],
-    stocks: &mut [u32; STOCKS],
-    handles: &mut [u64; STORE],
-    lengths: &mut [u16; STORE],
-    links: &mut [u32; LINKS],
-    counts: &mut [u64; COUNTS],
+    tables: &mut Tables,
     first: u32,
     n: u32,
     rounds: u32,
 ) -> Tally
-    requires { Valid control (tables terms.old stocks.old handles.old lengths.old links.old counts.old) × (first < n) }
+    requires { Valid control tables.old × (first < n) }
     ensures { Valid result.control
-        (tables terms.new stocks.new handles.new lengths.new links.new
-        counts.new) }
+        tables.new }
 {
     let mut at = Tally { control, sum: 0 };
     let mut id = first;
     let mut k: u32 = 0;
     while k < rounds {
         at = traffic_round(
-            at.control, terms, stocks, handles, lengths, links, counts, id, k, at.sum,
+            at.control, tables, id, k, at.sum,
         );
         id = next(id, n);
         k += 1;
@@ -371,58 +329,46 @@ fn stage_of(k: u32, n: u32, indifferents: u32, each: u32, rounds: u32) -> Stage
 
 pub fn run_stage(
     control: Control,
-    terms: &mut [u32; TERMS],
-    stocks: &mut [u32; STOCKS],
-    handles: &mut [u64; STORE],
-    lengths: &mut [u16; STORE],
-    links: &mut [u32; LINKS],
-    counts: &mut [u64; COUNTS],
+    tables: &mut Tables,
     n: u32,
     s: Stage,
 ) -> Tally
-    requires { Valid control (tables terms.old stocks.old handles.old lengths.old links.old counts.old) × (s.from < s.to) }
+    requires { Valid control tables.old × (s.from < s.to) }
     ensures { Valid result.control
-        (tables terms.new stocks.new handles.new lengths.new links.new
-        counts.new) }
+        tables.new }
 {
     let joined = join_ids(
-        control, terms, stocks, handles, lengths, links, counts, s.first, s.end, s.kind, s.rate,
+        control, tables, s.first, s.end, s.kind, s.rate,
         s.burst,
     );
     let filled = fill_queues(
-        joined, terms, stocks, handles, lengths, links, counts, n, s.each,
+        joined, tables, n, s.each,
     );
     traffic_rounds(
-        filled, terms, stocks, handles, lengths, links, counts, s.from, s.to, s.rounds,
+        filled, tables, s.from, s.to, s.rounds,
     )
 }
 
 // Both stages, in one loop: the compiler draws a function in where it has one caller.
 fn run_stages(
     control: Control,
-    terms: &mut [u32; TERMS],
-    stocks: &mut [u32; STOCKS],
-    handles: &mut [u64; STORE],
-    lengths: &mut [u16; STORE],
-    links: &mut [u32; LINKS],
-    counts: &mut [u64; COUNTS],
+    tables: &mut Tables,
     n: u32,
     indifferents: u32,
     each: u32,
     rounds: u32,
 ) -> Tally
-    requires { Valid control (tables terms.old stocks.old handles.old lengths.old links.old counts.old)
+    requires { Valid control tables.old
         × (1 ≤ n) × (n ≤ 2 * ids) }
     ensures { Valid result.control
-        (tables terms.new stocks.new handles.new lengths.new links.new
-        counts.new) }
+        tables.new }
 {
     let mut at = Tally { control, sum: 0 };
     let mut k: u32 = 0;
     while k < 2 {
         let s = stage_of(k, n, indifferents, each, rounds);
         at = run_stage(
-            at.control, terms, stocks, handles, lengths, links, counts, n, s,
+            at.control, tables, n, s,
         );
         k += 1;
     }
@@ -458,21 +404,11 @@ pub fn bench_run(
     if IDS < mode {
         return 0;
     }
-    let mut terms = [0; TERMS];
-    let mut stocks = [0; STOCKS];
-    let mut handles = [0; STORE];
-    let mut lengths = [0; STORE];
-    let mut links = [0; LINKS];
-    let mut counts = [0; COUNTS];
+    let mut tables = Tables::filled(0);
     let shut = opening::unopened();
     let opened = opening::open(
         shut,
-        &mut terms,
-        &mut stocks,
-        &mut handles,
-        &mut lengths,
-        &mut links,
-        &mut counts,
+        &mut tables,
         1024,
         discipline,
         1,
@@ -481,12 +417,7 @@ pub fn bench_run(
     let slots = mode == 0;
     let served = run_stages(
         begun,
-        &mut terms,
-        &mut stocks,
-        &mut handles,
-        &mut lengths,
-        &mut links,
-        &mut counts,
+        &mut tables,
         n,
         indifferents,
         depth - 1,
@@ -497,12 +428,7 @@ pub fn bench_run(
     }
     refused_rounds(
         served.control,
-        &mut terms,
-        &mut stocks,
-        &mut handles,
-        &mut lengths,
-        &mut links,
-        &mut counts,
+        &mut tables,
         n,
         mode,
         rounds,

@@ -14,7 +14,7 @@ use Rattle.grammar.specs.CountLines.{sheet_line, line_of, lines_below, counts_pr
 use Rattle.printer.specs.Printed.{line_room, LineWritten}
 use Rattle.printer.proofs.Appending.{appended_front}
 use Rattle.script.specs.declared.Progress.{Progress}
-use Rattle.tables.specs.Tables.{Tables}
+use Rattle.tables.specs.declared.Tables.{Tables}
 use Rattle.tables.specs.Meaning.{whole_of}
 use Rattle.carried.specs.CarriedOut.{CarriedOut}
 use Rattle.bill.specs.Billed.{bill_room, AllLines, Billed}

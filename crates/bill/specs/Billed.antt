@@ -4,7 +4,7 @@ use Rattle.definitions.specs.Sizes.{ids}
 use Rattle.definitions.specs.Counts.{Whole}
 use Rattle.grammar.specs.CountLines.{lines_below, counts_printed}
 use Rattle.printer.specs.Printed.{line_room}
-use Rattle.tables.specs.Tables.{Tables}
+use Rattle.tables.specs.declared.Tables.{Tables}
 
 unfoldable pub bill_room : ℕ
 bill_room = ids * line_room

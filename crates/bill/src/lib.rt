@@ -5,7 +5,8 @@
 ghost use Rattle.std.specs.Prelude.{◌≡◌, ◌+◌, ◌≤◌, length};
 ghost use Rattle.grammar.specs.CountLines.{line_of};
 ghost use Rattle.printer.specs.Printed.{line_room, LineWritten};
-ghost use Rattle.tables.specs.Tables.{Tables, tables};
+ghost use Rattle.tables.specs.declared.Tables.{Tables};
+ghost use Rattle.tables.specs.Tables.{tables};
 ghost use Rattle.tables.specs.Meaning.{whole_of};
 ghost use Rattle.bill.specs.Billed.{bill_room, AllLines, Billed};
 
@@ -50,24 +51,17 @@ fn print_lines(out: &mut [u8], control: Control, counts: &[u64; COUNTS]) -> usiz
 pub fn bill(
     text: &[u8],
     out: &mut [u8],
-    terms: &mut [u32; TERMS],
-    stocks: &mut [u32; STOCKS],
-    handles: &mut [u64; STORE],
-    lengths: &mut [u16; STORE],
-    links: &mut [u32; LINKS],
-    counts: &mut [u64; COUNTS],
+    tables: &mut Tables,
 ) -> usize
     ensures { Billed text.now out.old
-        (tables terms.old stocks.old handles.old lengths.old links.old
-        counts.old)
+        tables.old
         out.new result
-        (tables terms.new stocks.new handles.new lengths.new links.new
-        counts.new) }
+        tables.new }
 {
     if out.len() < BILL_ROOM {
         return 0;
     }
-    let carried = carried::carry_out(text, out, terms, stocks, handles, lengths, links, counts);
+    let carried = carried::carry_out(text, out, tables);
     if text.len() > TEXT_LIMIT {
         return carried.written;
     }

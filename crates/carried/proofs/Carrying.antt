@@ -17,7 +17,7 @@ use Rattle.printer.specs.Printed.{line_room}
 use Rattle.script.specs.declared.Progress.{Progress}
 use Rattle.script.specs.Pieces.{Start}
 use Rattle.script.proofs.LinePrinted.{ahead_none}
-use Rattle.tables.specs.Tables.{Tables}
+use Rattle.tables.specs.declared.Tables.{Tables}
 use Rattle.carried.specs.CarriedOut.{CarriedOut}
 
 module _ {text out : List ℕ} {r : Progress} (s : Start text out r) (u : Tables) where

@@ -7,7 +7,7 @@ use Rattle.grammar.specs.Bytes.{text_limit}
 use Rattle.grammar.specs.Printout.{printed, whole_from}
 use Rattle.printer.specs.Printed.{line_room}
 use Rattle.script.specs.declared.Progress.{Progress}
-use Rattle.tables.specs.Tables.{Tables}
+use Rattle.tables.specs.declared.Tables.{Tables}
 use Rattle.tables.specs.Meaning.{whole_of}
 use Rattle.tables.specs.Invariant.{Valid}
 

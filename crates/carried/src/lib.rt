@@ -16,16 +16,10 @@ use tables::{STOCKS, STORE, TERMS};
 pub fn carry_out(
     text: &[u8],
     out: &mut [u8],
-    terms: &mut [u32; TERMS],
-    stocks: &mut [u32; STOCKS],
-    handles: &mut [u64; STORE],
-    lengths: &mut [u16; STORE],
-    links: &mut [u32; LINKS],
-    counts: &mut [u64; COUNTS],
+    tables: &mut Tables,
 ) -> Progress
     ensures { CarriedOut text.now out.new result
-        (tables terms.new stocks.new handles.new lengths.new links.new
-        counts.new) }
+        tables.new }
 {
     let first = script::start(text, out);
     if !printer::has_room(out.len(), 0) {
@@ -43,12 +37,7 @@ pub fn carry_out(
             at,
             out,
             control,
-            terms,
-            stocks,
-            handles,
-            lengths,
-            links,
-            counts,
+            tables,
         );
         control = piece.control;
         at = piece.next;

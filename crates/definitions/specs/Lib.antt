@@ -13,6 +13,7 @@ pub mod State
 -- answers, and the table of numbers
 pub mod Answers
 pub mod Checks
+pub mod Refusals
 -- the seven calls
 pub mod Event
 pub mod Calls

@@ -3,6 +3,9 @@
 // Their numbers, too, as the code has them; for the proofs they stand in specs/Sizes.antt, and where two disagree a proof fails.
 #![tactic(auto)]
 
+ghost use Rattle.std.specs.Prelude.{◌≡◌};
+ghost use Rattle.definitions.specs.Refusals.{number_of};
+
 // The largest number of a call, and the largest handle.
 pub const NUMBER_LIMIT: u64 = 4294967295;
 
@@ -69,6 +72,55 @@ pub enum Answer {
     Accepted,
     Refused { number: u32 },
     Slot { outcome: Outcome },
+}
+
+// The checks of the calls, by what they found wrong.
+#[derive(Clone, Copy, PartialEq, Eq)]
+pub enum Refusal {
+    Threshold,
+    Discipline,
+    Seed,
+    Id,
+    Inactive,
+    Active,
+    Kind,
+    Rate,
+    Burst,
+    Rates,
+    Indifferent,
+    Pool,
+    Length,
+    Full,
+    Drained,
+    Unopened,
+    Unfair,
+}
+
+impl Refusal {
+    // The number of the check in the paper, which an answer gives.
+    pub fn number(self) -> u32
+        ensures { result ≡ number_of self }
+    {
+        match self {
+            Refusal::Threshold => 1,
+            Refusal::Discipline => 2,
+            Refusal::Seed => 3,
+            Refusal::Id => 4,
+            Refusal::Inactive => 5,
+            Refusal::Active => 6,
+            Refusal::Kind => 7,
+            Refusal::Rate => 8,
+            Refusal::Burst => 9,
+            Refusal::Rates => 10,
+            Refusal::Indifferent => 11,
+            Refusal::Pool => 12,
+            Refusal::Length => 13,
+            Refusal::Full => 14,
+            Refusal::Drained => 15,
+            Refusal::Unopened => 19,
+            Refusal::Unfair => 22,
+        }
+    }
 }
 
 // Why a slot is whose it is: by a draw, with its target and the sum of the rates in it, or without one.

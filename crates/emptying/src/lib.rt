@@ -75,19 +75,13 @@ fn own(plan: Plan) -> Stage
 
 // An open core.
 fn begin(
-    terms: &mut [u32; TERMS],
-    stocks: &mut [u32; STOCKS],
-    handles: &mut [u64; STORE],
-    lengths: &mut [u16; STORE],
-    links: &mut [u32; LINKS],
-    counts: &mut [u64; COUNTS],
+    tables: &mut Tables,
 ) -> Control
-    ensures { Valid result (tables terms.new stocks.new handles.new lengths.new links.new
-        counts.new) }
+    ensures { Valid result tables.new }
 {
     let shut = opening::unopened();
     let r = opening::open(
-        shut, terms, stocks, handles, lengths, links, counts, SHARES, FIRST_COME, 1,
+        shut, tables, SHARES, FIRST_COME, 1,
     );
     r.control
 }
@@ -95,25 +89,19 @@ fn begin(
 // The clients below the end leave, one after the other.
 fn leave_ids(
     control: Control,
-    terms: &mut [u32; TERMS],
-    stocks: &mut [u32; STOCKS],
-    handles: &[u64; STORE],
-    lengths: &[u16; STORE],
-    links: &mut [u32; LINKS],
-    counts: &mut [u64; COUNTS],
+    tables: &mut Tables,
     end: u32,
     before: u64,
 ) -> Tally
-    requires { Valid control (tables terms.old stocks.old handles.now lengths.now links.old counts.old) }
+    requires { Valid control tables.old }
     ensures { Valid result.control
-        (tables terms.new stocks.new handles.now lengths.now links.new
-        counts.new) }
+        tables.new }
 {
     let mut at = control;
     let mut sum = before;
     let mut id: u32 = 0;
     while id < end {
-        let r = settings::leave(at, terms, stocks, handles, lengths, links, counts, id);
+        let r = settings::leave(at, tables, id);
         let answer = r.answer;
         at = r.control;
         sum = bench::add(sum, answer);
@@ -125,27 +113,21 @@ fn leave_ids(
 // They change to the new kind.
 fn change_ids(
     control: Control,
-    terms: &mut [u32; TERMS],
-    stocks: &mut [u32; STOCKS],
-    handles: &[u64; STORE],
-    lengths: &[u16; STORE],
-    links: &mut [u32; LINKS],
-    counts: &mut [u64; COUNTS],
+    tables: &mut Tables,
     end: u32,
     plan: Plan,
     before: u64,
 ) -> Tally
-    requires { Valid control (tables terms.old stocks.old handles.now lengths.now links.old counts.old) }
+    requires { Valid control tables.old }
     ensures { Valid result.control
-        (tables terms.new stocks.new handles.now lengths.now links.new
-        counts.new) }
+        tables.new }
 {
     let mut at = control;
     let mut sum = before;
     let mut id: u32 = 0;
     while id < end {
         let r = settings::change(
-            at, terms, stocks, handles, lengths, links, counts, id, plan.to, plan.rate, plan.burst,
+            at, tables, id, plan.to, plan.rate, plan.burst,
         );
         let answer = r.answer;
         at = r.control;
@@ -157,48 +139,36 @@ fn change_ids(
 
 fn empty_ids(
     control: Control,
-    terms: &mut [u32; TERMS],
-    stocks: &mut [u32; STOCKS],
-    handles: &[u64; STORE],
-    lengths: &[u16; STORE],
-    links: &mut [u32; LINKS],
-    counts: &mut [u64; COUNTS],
+    tables: &mut Tables,
     end: u32,
     plan: Plan,
     sum: u64,
 ) -> Tally
-    requires { Valid control (tables terms.old stocks.old handles.now lengths.now links.old counts.old) }
+    requires { Valid control tables.old }
     ensures { Valid result.control
-        (tables terms.new stocks.new handles.now lengths.now links.new
-        counts.new) }
+        tables.new }
 {
     if plan.to == 0 {
         return leave_ids(
-            control, terms, stocks, handles, lengths, links, counts, end, sum,
+            control, tables, end, sum,
         );
     }
     change_ids(
-        control, terms, stocks, handles, lengths, links, counts, end, plan, sum,
+        control, tables, end, plan, sum,
     )
 }
 
 // Rounds in which the tables are put back as they were and the clients are emptied.
 fn empty_rounds(
     control: Control,
-    terms: &mut [u32; TERMS],
-    stocks: &mut [u32; STOCKS],
-    handles: &[u64; STORE],
-    lengths: &[u16; STORE],
-    links: &mut [u32; LINKS],
-    counts: &mut [u64; COUNTS],
+    tables: &mut Tables,
     end: u32,
     plan: Plan,
     rounds: u32,
 ) -> Tally
-    requires { Valid control (tables terms.old stocks.old handles.now lengths.now links.old counts.old) }
+    requires { Valid control tables.old }
     ensures { Valid result.control
-        (tables terms.new stocks.new handles.now lengths.now links.new
-        counts.new) }
+        tables.new }
 {
     let kept_terms = *terms;
     let kept_stocks = *stocks;
@@ -212,7 +182,7 @@ fn empty_rounds(
         *links = kept_links;
         *counts = kept_counts;
         at = empty_ids(
-            control, terms, stocks, handles, lengths, links, counts, end, plan, at.sum,
+            control, tables, end, plan, at.sum,
         );
         k += 1;
     }
@@ -221,38 +191,27 @@ fn empty_rounds(
 
 // The crowd and the clients to be emptied, on a fresh core.
 fn set_up(
-    terms: &mut [u32; TERMS],
-    stocks: &mut [u32; STOCKS],
-    handles: &mut [u64; STORE],
-    lengths: &mut [u16; STORE],
-    links: &mut [u32; LINKS],
-    counts: &mut [u64; COUNTS],
+    tables: &mut Tables,
     plan: Plan,
 ) -> Tally
     requires { 1 ≤ plan.clients }
     ensures { Valid result.control
-        (tables terms.new stocks.new handles.new lengths.new links.new
-        counts.new) }
+        tables.new }
 {
     let first = crowd(plan);
     let second = own(plan);
-    let begun = begin(terms, stocks, handles, lengths, links, counts);
+    let begun = begin(tables);
     let at = bench::run_stage(
-        begun, terms, stocks, handles, lengths, links, counts, IDS, first,
+        begun, tables, IDS, first,
     );
     bench::run_stage(
-        at.control, terms, stocks, handles, lengths, links, counts, IDS, second,
+        at.control, tables, IDS, second,
     )
 }
 
 // The rounds, and behind them an arrival for each client, with a tick: the answers tell who has room, and what was written is read.
 fn emptying(
-    terms: &mut [u32; TERMS],
-    stocks: &mut [u32; STOCKS],
-    handles: &mut [u64; STORE],
-    lengths: &mut [u16; STORE],
-    links: &mut [u32; LINKS],
-    counts: &mut [u64; COUNTS],
+    tables: &mut Tables,
     plan: Plan,
     end: u32,
     rounds: u32,
@@ -260,12 +219,12 @@ fn emptying(
     requires { 1 ≤ plan.clients }
 {
     let n = plan.clients;
-    let a = set_up(terms, stocks, handles, lengths, links, counts, plan);
+    let a = set_up(tables, plan);
     let b = empty_rounds(
-        a.control, terms, stocks, handles, lengths, links, counts, end, plan, rounds,
+        a.control, tables, end, plan, rounds,
     );
     let c = bench::traffic_rounds(
-        b.control, terms, stocks, handles, lengths, links, counts, 0, n, n,
+        b.control, tables, 0, n, n,
     );
     std::num::wrapping_add_u64(std::num::wrapping_add_u64(a.sum, b.sum), c.sum)
 }
@@ -292,19 +251,9 @@ pub fn bench_emptying(
         to,
         burst: burst_of(to),
     };
-    let mut terms = [0; TERMS];
-    let mut stocks = [0; STOCKS];
-    let mut handles = [0; STORE];
-    let mut lengths = [0; STORE];
-    let mut links = [0; LINKS];
-    let mut counts = [0; COUNTS];
+    let mut tables = Tables::filled(0);
     emptying(
-        &mut terms,
-        &mut stocks,
-        &mut handles,
-        &mut lengths,
-        &mut links,
-        &mut counts,
+        &mut tables,
         plan,
         end,
         rounds,
@@ -313,18 +262,12 @@ pub fn bench_emptying(
 
 fn open_rounds(
     control: Control,
-    terms: &mut [u32; TERMS],
-    stocks: &mut [u32; STOCKS],
-    handles: &mut [u64; STORE],
-    lengths: &mut [u16; STORE],
-    links: &mut [u32; LINKS],
-    counts: &mut [u64; COUNTS],
+    tables: &mut Tables,
     rounds: u32,
 ) -> Tally
-    requires { Valid control (tables terms.old stocks.old handles.old lengths.old links.old counts.old) }
+    requires { Valid control tables.old }
     ensures { Valid result.control
-        (tables terms.new stocks.new handles.new lengths.new links.new
-        counts.new) }
+        tables.new }
 {
     let mut at = control;
     let mut sum: u64 = 0;
@@ -332,12 +275,7 @@ fn open_rounds(
     while k < rounds {
         let r = opening::open(
             at,
-            terms,
-            stocks,
-            handles,
-            lengths,
-            links,
-            counts,
+            tables,
             SHARES,
             FIRST_COME,
             k + 1,
@@ -352,12 +290,7 @@ fn open_rounds(
 
 // The opens, and at last some calls that read what they wrote.
 fn opens(
-    terms: &mut [u32; TERMS],
-    stocks: &mut [u32; STOCKS],
-    handles: &mut [u64; STORE],
-    lengths: &mut [u16; STORE],
-    links: &mut [u32; LINKS],
-    counts: &mut [u64; COUNTS],
+    tables: &mut Tables,
     rounds: u32,
 ) -> u64 {
     let last = Stage {
@@ -371,31 +304,21 @@ fn opens(
         to: IDS,
         rounds: IDS,
     };
-    let begun = begin(terms, stocks, handles, lengths, links, counts);
+    let begun = begin(tables);
     let a = open_rounds(
-        begun, terms, stocks, handles, lengths, links, counts, rounds,
+        begun, tables, rounds,
     );
     let b = bench::run_stage(
-        a.control, terms, stocks, handles, lengths, links, counts, IDS, last,
+        a.control, tables, IDS, last,
     );
     std::num::wrapping_add_u64(a.sum, b.sum)
 }
 
 // Rounds of opening anew.
 pub fn bench_opening(rounds: u32) -> u64 {
-    let mut terms = [0; TERMS];
-    let mut stocks = [0; STOCKS];
-    let mut handles = [0; STORE];
-    let mut lengths = [0; STORE];
-    let mut links = [0; LINKS];
-    let mut counts = [0; COUNTS];
+    let mut tables = Tables::filled(0);
     opens(
-        &mut terms,
-        &mut stocks,
-        &mut handles,
-        &mut lengths,
-        &mut links,
-        &mut counts,
+        &mut tables,
         rounds,
     )
 }

@@ -19,7 +19,7 @@ use Rattle.grammar.specs.Forecast.{sure_line, forecast, forecast_behind}
 use Rattle.printer.specs.Printed.{line_room, LineWritten}
 use Rattle.printer.proofs.Appending.{appended_front, appended_length}
 use Rattle.tables.specs.declared.Control.{Control}
-use Rattle.tables.specs.Tables.{Tables}
+use Rattle.tables.specs.declared.Tables.{Tables}
 use Rattle.tables.specs.Meaning.{core_of}
 use Rattle.script.specs.declared.Progress.{Progress}
 use Rattle.carried.specs.CarriedOut.{CarriedOut}

@@ -2,7 +2,7 @@
 use Rattle.std.specs.Prelude.{ℕ, ◌≤◌, ◌<◌, ◌≡◌, List, length, take}
 use Rattle.grammar.specs.Forecast.{forecast_behind}
 use Rattle.printer.specs.Printed.{line_room}
-use Rattle.tables.specs.Tables.{Tables}
+use Rattle.tables.specs.declared.Tables.{Tables}
 
 -- the bytes and the tables before and after, and how many bytes were written
 pub record Told (text : List ℕ) (ticks : ℕ) (before : List ℕ) (t : Tables) (after : List ℕ) (r : ℕ) (u : Tables) : Type 0 where

@@ -41,24 +41,17 @@ pub fn forecast(
     text: &[u8],
     ticks: u32,
     out: &mut [u8],
-    terms: &mut [u32; TERMS],
-    stocks: &mut [u32; STOCKS],
-    handles: &mut [u64; STORE],
-    lengths: &mut [u16; STORE],
-    links: &mut [u32; LINKS],
-    counts: &mut [u64; COUNTS],
+    tables: &mut Tables,
 ) -> usize
     ensures { Told text.now ticks out.old
-        (tables terms.old stocks.old handles.old lengths.old links.old
-        counts.old)
+        tables.old
         out.new result
-        (tables terms.new stocks.new handles.new lengths.new links.new
-        counts.new) }
+        tables.new }
 {
     if !printer::has_room(out.len(), 0) {
         return 0;
     }
-    let carried = carried::carry_out(text, out, terms, stocks, handles, lengths, links, counts);
+    let carried = carried::carry_out(text, out, tables);
     if text.len() > TEXT_LIMIT {
         return carried.written;
     }

@@ -1,7 +1,7 @@
 -- How a run of the code with a greedy client goes on: one of its calls, and what is told behind so many. Assumes nothing.
 use Rattle.std.proofs.Common.{◌≡◌, ℕ, ap}
 use Rattle.grammar.specs.declared.Call.{Call}
-use Rattle.tables.specs.Tables.{Tables}
+use Rattle.tables.specs.declared.Tables.{Tables}
 use Rattle.tables.specs.Meaning.{core_of}
 use Rattle.runs.specs.declared.Draws.{Draws}
 use Rattle.runs.specs.declared.Taken.{Taken}

@@ -1,6 +1,6 @@
 -- What the code's progress and tables stand for, and what its functions promise of it.
 use Rattle.std.specs.Prelude.{◌≡◌, ℕ}
-use Rattle.tables.specs.Tables.{Tables}
+use Rattle.tables.specs.declared.Tables.{Tables}
 use Rattle.runs.specs.Advance.{BeginsAs, Advances}
 use Rattle.runs.specs.Stands.{run_of}
 use Rattle.greedy.specs.declared.GreedyProgress.{GreedyProgress}

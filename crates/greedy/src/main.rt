@@ -237,19 +237,12 @@ fn begin(seed: u32) -> GreedyProgress
 // Makes one call.
 fn call_once(
     at: GreedyProgress,
-    terms: &mut [u32; TERMS],
-    stocks: &mut [u32; STOCKS],
-    handles: &mut [u64; STORE],
-    lengths: &mut [u16; STORE],
-    links: &mut [u32; LINKS],
-    counts: &mut [u64; COUNTS],
+    tables: &mut Tables,
 ) -> GreedyProgress
-    requires { Valid at.progress.control (tables terms.old stocks.old handles.old lengths.old links.old counts.old) }
+    requires { Valid at.progress.control tables.old }
     ensures { Goes 1 at
-        (tables terms.old stocks.old handles.old lengths.old links.old
-        counts.old) result
-        (tables terms.new stocks.new handles.new lengths.new links.new
-        counts.new) }
+        tables.old result
+        tables.new }
 {
     let progress = at.progress;
     let sofar = at.counts;
@@ -257,7 +250,7 @@ fn call_once(
     let call = call_in(sofar.phase, draws.a, draws.b, draws.c, draws.d);
     let maker = draws.maker;
     let taken = runs::take(
-        progress, terms, stocks, handles, lengths, links, counts, maker, call,
+        progress, tables, maker, call,
     );
     let next = taken.progress;
     let answer = taken.answer;
@@ -271,25 +264,18 @@ fn call_once(
 // Makes so many calls.
 fn calls(
     progress: GreedyProgress,
-    terms: &mut [u32; TERMS],
-    stocks: &mut [u32; STOCKS],
-    handles: &mut [u64; STORE],
-    lengths: &mut [u16; STORE],
-    links: &mut [u32; LINKS],
-    counts: &mut [u64; COUNTS],
+    tables: &mut Tables,
     count: u32,
 ) -> GreedyProgress
-    requires { Valid progress.progress.control (tables terms.old stocks.old handles.old lengths.old links.old counts.old) }
+    requires { Valid progress.progress.control tables.old }
     ensures { Goes count progress
-        (tables terms.old stocks.old handles.old lengths.old links.old
-        counts.old) result
-        (tables terms.new stocks.new handles.new lengths.new links.new
-        counts.new) }
+        tables.old result
+        tables.new }
 {
     let mut at = progress;
     let mut made: u32 = 0;
     while made < count {
-        at = call_once(at, terms, stocks, handles, lengths, links, counts);
+        at = call_once(at, tables);
         made += 1;
     }
     at
@@ -322,17 +308,12 @@ fn blocks(
     rt: &(impl Print + Eprint),
     seed: u32,
     count: u32,
-    terms: &mut [u32; TERMS],
-    stocks: &mut [u32; STOCKS],
-    handles: &mut [u64; STORE],
-    lengths: &mut [u16; STORE],
-    links: &mut [u32; LINKS],
-    counts: &mut [u64; COUNTS],
+    tables: &mut Tables,
 ) {
     let mut at = begin(seed);
     let mut done: u32 = 0;
     while done < count {
-        at = calls(at, terms, stocks, handles, lengths, links, counts, BLOCK);
+        at = calls(at, tables, BLOCK);
         done += 1;
         if !tell(
             rt,
@@ -349,22 +330,12 @@ fn blocks(
 
 // A run on tables of its own.
 fn run(rt: &(impl Print + Eprint), seed: u32, count: u32) {
-    let mut terms: [u32; TERMS] = [0; TERMS];
-    let mut stocks: [u32; STOCKS] = [0; STOCKS];
-    let mut handles: [u64; STORE] = [0; STORE];
-    let mut lengths: [u16; STORE] = [0; STORE];
-    let mut links: [u32; LINKS] = [0; LINKS];
-    let mut counts: [u64; COUNTS] = [0; COUNTS];
+    let mut tables = Tables::filled(0);
     blocks(
         rt,
         seed,
         count,
-        &mut terms,
-        &mut stocks,
-        &mut handles,
-        &mut lengths,
-        &mut links,
-        &mut counts,
+        &mut tables,
     );
 }
 

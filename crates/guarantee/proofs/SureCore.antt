@@ -16,7 +16,7 @@ use Rattle.definitions.proofs.Stretches.Guarantee.{unopened_private}
 use Rattle.marks.specs.Marks.{marked, marked_number}
 use Rattle.marks.proofs.IdSearch.{any_below_cong}
 use Rattle.tables.specs.declared.Control.{Control}
-use Rattle.tables.specs.Tables.{Tables}
+use Rattle.tables.specs.declared.Tables.{Tables}
 use Rattle.tables.specs.Meaning.{client_at, stock_at, side_of, state_of, core_of}
 use Rattle.tables.specs.Invariant.{Shape, Valid}
 use Rattle.tables.proofs.MarkedKinds.{kind_indifferent, kind_private}

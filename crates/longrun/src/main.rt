@@ -26,17 +26,12 @@ fn blocks(
     rt: &(impl Print + Eprint),
     seed: u32,
     count: u32,
-    terms: &mut [u32; TERMS],
-    stocks: &mut [u32; STOCKS],
-    handles: &mut [u64; STORE],
-    lengths: &mut [u16; STORE],
-    links: &mut [u32; LINKS],
-    counts: &mut [u64; COUNTS],
+    tables: &mut Tables,
 ) {
     let mut at = runs::begin(seed);
     let mut done: u32 = 0;
     while done < count {
-        at = runs::calls(at, terms, stocks, handles, lengths, links, counts, BLOCK);
+        at = runs::calls(at, tables, BLOCK);
         done += 1;
         if !tell(rt, seed, done, at.check) {
             return;
@@ -46,22 +41,12 @@ fn blocks(
 
 // A run on tables of its own.
 fn run(rt: &(impl Print + Eprint), seed: u32, count: u32) {
-    let mut terms: [u32; TERMS] = [0; TERMS];
-    let mut stocks: [u32; STOCKS] = [0; STOCKS];
-    let mut handles: [u64; STORE] = [0; STORE];
-    let mut lengths: [u16; STORE] = [0; STORE];
-    let mut links: [u32; LINKS] = [0; LINKS];
-    let mut counts: [u64; COUNTS] = [0; COUNTS];
+    let mut tables = Tables::filled(0);
     blocks(
         rt,
         seed,
         count,
-        &mut terms,
-        &mut stocks,
-        &mut handles,
-        &mut lengths,
-        &mut links,
-        &mut counts,
+        &mut tables,
     );
 }
 

@@ -15,7 +15,7 @@ use Rattle.definitions.specs.Checks.{first_failed}
 use Rattle.definitions.specs.Notes.{note_of, holder, went_to, seen_by, tenant_checks, unless_refused, tenant_seen}
 use Rattle.marks.specs.Marks.{marked}
 use Rattle.tables.specs.declared.Control.{Control}
-use Rattle.tables.specs.Tables.{Tables}
+use Rattle.tables.specs.declared.Tables.{Tables}
 use Rattle.tables.specs.Meaning.{kind_at, client_at, clients_of, state_of, core_of}
 use Rattle.tables.specs.Numbers.{refusal}
 

@@ -4,7 +4,7 @@
 
 ghost use Rattle.std.specs.Prelude.{◌≡◌};
 ghost use Rattle.definitions.specs.Notes.{note_of, holder, tenant_checks, tenant_seen};
-ghost use Rattle.tables.specs.Tables.{Tables};
+ghost use Rattle.tables.specs.declared.Tables.{Tables};
 ghost use Rattle.tables.specs.Meaning.{core_of};
 ghost use Rattle.tables.specs.Numbers.{refusal};
 ghost use Rattle.notes.specs.ReasonLeft.{reason_left};

@@ -21,7 +21,8 @@ use Rattle.order.specs.Owner.{owner, places_of}
 use Rattle.order.proofs.PushAndUnlink.{new_sound, new_ordered}
 use Rattle.order.proofs.OrderWalk.{ordered-walked}
 use Rattle.tables.specs.declared.Control.{Control}
-use Rattle.tables.specs.Tables.{Tables, tables, rate_column, burst_column, level_column, term_columns}
+use Rattle.tables.specs.declared.Tables.{Tables}
+use Rattle.tables.specs.Tables.{tables, rate_column, burst_column, level_column, term_columns}
 use Rattle.tables.specs.Tables.{pool_column, head_column, count_column, stock_columns, entry, field, ring}
 use Rattle.tables.specs.Meaning.{kind_at, queue_at, client_at, clients_of, stock_at, stocks_of, order_of, side_of, state_of}
 use Rattle.tables.specs.Invariant.{Shape}

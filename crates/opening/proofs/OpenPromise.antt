@@ -19,7 +19,7 @@ use Rattle.definitions.proofs.Limits.{step-limits}
 use Rattle.counts.specs.CountTable.{count_in}
 use Rattle.tables.specs.declared.Control.{Control}
 use Rattle.tables.specs.declared.Answered.{Answered}
-use Rattle.tables.specs.Tables.{Tables}
+use Rattle.tables.specs.declared.Tables.{Tables}
 use Rattle.tables.specs.Meaning.{state_of, core_of, counts_of}
 use Rattle.tables.specs.Invariant.{Valid}
 use Rattle.tables.specs.Numbers.{first_failed}

@@ -8,7 +8,7 @@ use Rattle.definitions.specs.Event.{Open}
 use Rattle.definitions.specs.Checks.{open_checks}
 use Rattle.definitions.specs.History.{◌then◌, begin}
 use Rattle.tables.specs.declared.Answered.{Answered}
-use Rattle.tables.specs.Tables.{Tables}
+use Rattle.tables.specs.declared.Tables.{Tables}
 use Rattle.tables.specs.Meaning.{core_of}
 use Rattle.tables.specs.Numbers.{first_failed}
 use Rattle.tables.specs.Promise.{Meets}

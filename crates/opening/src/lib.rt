@@ -5,7 +5,7 @@ ghost use Rattle.std.specs.Prelude.{◌≡◌};
 ghost use Rattle.definitions.specs.Event.{Open};
 ghost use Rattle.definitions.specs.State.{unopened};
 ghost use Rattle.definitions.specs.Checks.{open_checks};
-ghost use Rattle.tables.specs.Tables.{Tables, tables};
+ghost use Rattle.tables.specs.declared.Tables.{Tables};
 ghost use Rattle.tables.specs.Meaning.{core_of};
 ghost use Rattle.tables.specs.Invariant.{Valid};
 ghost use Rattle.tables.specs.Numbers.{first_failed};
@@ -15,7 +15,7 @@ use counts::COUNTS;
 use definitions::{SHARES, WEIGHTED_DRAW};
 use generator::Generator;
 use order::{END, LINKS};
-use tables::{Answered, Control, STOCKS, STORE, TERMS};
+use tables::{Answered, Control, STOCKS, STORE, TERMS, Tables};
 
 // The control of a core before any open, whatever its tables hold.
 pub fn unopened() -> Control
@@ -71,32 +71,23 @@ fn open_number(threshold: u32, discipline: u32, seed: u32) -> u32
 // Gives a core without clients, in place of any earlier one (paper 01, "Open"). Refused: 1, 2, 3.
 pub fn open(
     control: Control,
-    terms: &mut [u32; TERMS],
-    stocks: &mut [u32; STOCKS],
-    handles: &mut [u64; STORE],
-    lengths: &mut [u16; STORE],
-    links: &mut [u32; LINKS],
-    counts: &mut [u64; COUNTS],
+    tables: &mut Tables,
     threshold: u32,
     discipline: u32,
     seed: u32,
 ) -> Answered
-    requires { Valid control (tables terms.old stocks.old handles.old lengths.old links.old counts.old) }
-    ensures { Promised (Open threshold discipline seed) control
-        (tables terms.old stocks.old handles.old lengths.old links.old
-        counts.old) result
-        (tables terms.new stocks.new handles.new lengths.new links.new
-        counts.new) }
+    requires { Valid control tables.old }
+    ensures { Promised (Open threshold discipline seed) control tables.old result tables.new }
 {
     let number = open_number(threshold, discipline, seed);
     if number != 0 {
         return tables::refused(control, number);
     }
-    *terms = [0; TERMS];
-    *stocks = [0; STOCKS];
-    *handles = [0; STORE];
-    *lengths = [0; STORE];
-    *links = [END; LINKS];
-    *counts = [0; COUNTS];
+    tables.terms = [0; TERMS];
+    tables.stocks = [0; STOCKS];
+    tables.handles = [0; STORE];
+    tables.lengths = [0; STORE];
+    tables.links = [END; LINKS];
+    tables.counts = [0; COUNTS];
     tables::accepted(control_of(true, threshold, discipline, seed))
 }

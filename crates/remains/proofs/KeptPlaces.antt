@@ -15,7 +15,8 @@ use Rattle.definitions.proofs.Laws.Tests.{true-false}
 use Rattle.order.specs.Order.{sentinel, All}
 use Rattle.order.proofs.DistinctLists.{all_map}
 use Rattle.tables.specs.declared.Control.{Control}
-use Rattle.tables.specs.Tables.{Tables, tables, head_at, count_at, ring}
+use Rattle.tables.specs.declared.Tables.{Tables}
+use Rattle.tables.specs.Tables.{tables, head_at, count_at, ring}
 use Rattle.tables.specs.Meaning.{core_of}
 use Rattle.tables.specs.Invariant.{SoundCore, Valid}
 use Rattle.tables.specs.Unused.{waiting_places, SamePlace, DifferUnused}

@@ -13,7 +13,8 @@ use Rattle.definitions.specs.Sizes.{ids, places}
 use Rattle.definitions.proofs.Laws.Tests.{eqb-cases}
 use Rattle.order.specs.Order.{sentinel, Absent}
 use Rattle.order.specs.Owner.{owner}
-use Rattle.tables.specs.Tables.{Tables, head_at, count_at, ring}
+use Rattle.tables.specs.declared.Tables.{Tables}
+use Rattle.tables.specs.Tables.{head_at, count_at, ring}
 use Rattle.tables.specs.Meaning.{packet_at}
 use Rattle.tables.specs.Invariant.{Sized}
 use Rattle.tables.specs.Unused.{waiting_places, Unused}

@@ -3,7 +3,7 @@ use Prim.Native.Nat.{ℕ}
 use mathlib.Core.Path.{◌≡◌, ap, ◌∙◌}
 use mathlib.Core.Logic.{◌≢◌}
 use borrow.Author.Tests.{eq-eqb, ne_eqb}
-use Rattle.tables.specs.Tables.{Tables}
+use Rattle.tables.specs.declared.Tables.{Tables}
 use Rattle.runs.specs.declared.Progress.{Progress}
 use Rattle.runs.specs.LongRun.{LongRun, begun_on, further, after, block}
 use Rattle.runs.specs.Stands.{Begins, Goes}

@@ -5,7 +5,8 @@ use Rattle.definitions.specs.Sizes.{places}
 use Rattle.order.specs.Order.{sentinel}
 use Rattle.order.specs.Owner.{owner}
 use Rattle.tables.specs.declared.Control.{Control}
-use Rattle.tables.specs.Tables.{Tables, tables, head_at, count_at}
+use Rattle.tables.specs.declared.Tables.{Tables}
+use Rattle.tables.specs.Tables.{tables, head_at, count_at}
 use Rattle.tables.specs.Meaning.{packet_at}
 use Rattle.tables.specs.Invariant.{Sized, Valid}
 use Rattle.tables.specs.Unused.{DifferUnused, Unused}

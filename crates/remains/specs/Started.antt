@@ -5,7 +5,7 @@ use Rattle.definitions.specs.State.{unopened}
 use Rattle.definitions.specs.Event.{Open}
 use Rattle.definitions.specs.Core.{step}
 use Rattle.grammar.specs.Calls.{event_of}
-use Rattle.tables.specs.Tables.{Tables}
+use Rattle.tables.specs.declared.Tables.{Tables}
 use Rattle.tables.specs.Invariant.{Valid}
 use Rattle.runs.specs.declared.Progress.{Progress}
 use Rattle.runs.specs.LongRun.{LongRun, begun_on, begun, call_from, further, after, block}

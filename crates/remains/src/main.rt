@@ -89,23 +89,16 @@ fn overwrite_unused(
 // Makes a stretch of calls, and overwrites what they left where no packet waits.
 fn stretch(
     progress: Progress,
-    terms: &mut [u32; TERMS],
-    stocks: &mut [u32; STOCKS],
-    handles: &mut [u64; STORE],
-    lengths: &mut [u16; STORE],
-    links: &mut [u32; LINKS],
-    counts: &mut [u64; COUNTS],
+    tables: &mut Tables,
     number: u32,
 ) -> Progress
-    requires { Valid progress.control (tables terms.old stocks.old handles.old lengths.old links.old counts.old) }
+    requires { Valid progress.control tables.old }
     ensures { Goes stretch progress
-        (tables terms.old stocks.old handles.old lengths.old links.old
-        counts.old) result
-        (tables terms.new stocks.new handles.new lengths.new links.new
-        counts.new) }
+        tables.old result
+        tables.new }
 {
     let at = runs::calls(
-        progress, terms, stocks, handles, lengths, links, counts, STRETCH,
+        progress, tables, STRETCH,
     );
     overwrite_unused(stocks, handles, lengths, number as u64, lower_half(number));
     at
@@ -114,25 +107,18 @@ fn stretch(
 // Makes the calls of a block.
 fn block(
     progress: Progress,
-    terms: &mut [u32; TERMS],
-    stocks: &mut [u32; STOCKS],
-    handles: &mut [u64; STORE],
-    lengths: &mut [u16; STORE],
-    links: &mut [u32; LINKS],
-    counts: &mut [u64; COUNTS],
+    tables: &mut Tables,
     number: u32,
 ) -> Progress
-    requires { Valid progress.control (tables terms.old stocks.old handles.old lengths.old links.old counts.old) }
+    requires { Valid progress.control tables.old }
     ensures { Goes block progress
-        (tables terms.old stocks.old handles.old lengths.old links.old
-        counts.old) result
-        (tables terms.new stocks.new handles.new lengths.new links.new
-        counts.new) }
+        tables.old result
+        tables.new }
 {
     let mut at = progress;
     let mut made: u32 = 0;
     while made < STRETCHES {
-        at = stretch(at, terms, stocks, handles, lengths, links, counts, number);
+        at = stretch(at, tables, number);
         made += 1;
     }
     at
@@ -142,22 +128,16 @@ fn block(
 fn start(
     earlier: u32,
     seed: u32,
-    terms: &mut [u32; TERMS],
-    stocks: &mut [u32; STOCKS],
-    handles: &mut [u64; STORE],
-    lengths: &mut [u16; STORE],
-    links: &mut [u32; LINKS],
-    counts: &mut [u64; COUNTS],
+    tables: &mut Tables,
 ) -> Progress
     ensures { Starts earlier seed result
-        (tables terms.new stocks.new handles.new lengths.new links.new
-        counts.new) }
+        tables.new }
 {
     if earlier == 0 {
         return runs::begin(seed);
     }
     let first = runs::begin(earlier);
-    let left = runs::calls(first, terms, stocks, handles, lengths, links, counts, BLOCK);
+    let left = runs::calls(first, tables, BLOCK);
     let control = left.control;
     let mut anew = runs::begin(seed);
     anew.control = control;
@@ -177,20 +157,15 @@ fn blocks(
     earlier: u32,
     seed: u32,
     count: u32,
-    terms: &mut [u32; TERMS],
-    stocks: &mut [u32; STOCKS],
-    handles: &mut [u64; STORE],
-    lengths: &mut [u16; STORE],
-    links: &mut [u32; LINKS],
-    counts: &mut [u64; COUNTS],
+    tables: &mut Tables,
     number: u32,
 ) {
     let mut at = start(
-        earlier, seed, terms, stocks, handles, lengths, links, counts,
+        earlier, seed, tables,
     );
     let mut done: u32 = 0;
     while done < count {
-        at = block(at, terms, stocks, handles, lengths, links, counts, number);
+        at = block(at, tables, number);
         done += 1;
         if !tell(rt, earlier, seed, done, at.check) {
             return;
@@ -211,12 +186,7 @@ fn run(rt: &(impl Print + Eprint), seed: u32, count: u32, number: u32, earlier: 
         earlier,
         seed,
         count,
-        &mut terms,
-        &mut stocks,
-        &mut handles,
-        &mut lengths,
-        &mut links,
-        &mut counts,
+        &mut tables,
         number,
     );
 }

@@ -4,7 +4,7 @@ use Rattle.grammar.specs.declared.Call.{Call}
 use Rattle.definitions.specs.Core.{step}
 use Rattle.grammar.specs.Calls.{event_of}
 use Rattle.tables.specs.declared.Control.{Control}
-use Rattle.tables.specs.Tables.{Tables}
+use Rattle.tables.specs.declared.Tables.{Tables}
 use Rattle.tables.specs.Meaning.{core_of}
 use Rattle.tables.specs.Invariant.{Valid}
 use Rattle.runs.specs.declared.Progress.{Progress}

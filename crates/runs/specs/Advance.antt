@@ -2,7 +2,7 @@
 -- P is the code's progress and R what progress and tables stand for.
 use Rattle.std.specs.Prelude.{◌≡◌, ℕ, zero, suc}
 use Rattle.tables.specs.declared.Control.{Control}
-use Rattle.tables.specs.Tables.{Tables}
+use Rattle.tables.specs.declared.Tables.{Tables}
 use Rattle.tables.specs.Invariant.{Valid}
 
 -- one call more, so often

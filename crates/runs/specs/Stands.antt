@@ -2,7 +2,7 @@
 use Rattle.std.specs.Prelude.{◌≡◌, ℕ}
 use Rattle.grammar.specs.declared.Call.{Call}
 use Rattle.grammar.specs.Calls.{event_of}
-use Rattle.tables.specs.Tables.{Tables}
+use Rattle.tables.specs.declared.Tables.{Tables}
 use Rattle.tables.specs.Meaning.{core_of}
 use Rattle.tables.specs.Promise.{Meets}
 use Rattle.runs.specs.declared.Maker.{Maker}

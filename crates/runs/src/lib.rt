@@ -236,30 +236,18 @@ pub fn begin(seed: u32) -> Progress
 // Carries a call out, and mixes its answer into the check. The maker is as the call's draws have left it.
 pub fn take(
     progress: Progress,
-    terms: &mut [u32; TERMS],
-    stocks: &mut [u32; STOCKS],
-    handles: &mut [u64; STORE],
-    lengths: &mut [u16; STORE],
-    links: &mut [u32; LINKS],
-    counts: &mut [u64; COUNTS],
+    tables: &mut Tables,
     maker: Maker,
     call: Call,
 ) -> Taken
-    requires { Valid progress.control (tables terms.old stocks.old handles.old lengths.old links.old counts.old) }
+    requires { Valid progress.control tables.old }
     ensures { Takes call maker progress
-        (tables terms.old stocks.old handles.old lengths.old links.old
-        counts.old) result
-        (tables terms.new stocks.new handles.new lengths.new links.new
-        counts.new) }
+        tables.old result
+        tables.new }
 {
     let answered = script::perform(
         progress.control,
-        terms,
-        stocks,
-        handles,
-        lengths,
-        links,
-        counts,
+        tables,
         call,
     );
     let control = answered.control;
@@ -278,26 +266,19 @@ pub fn take(
 // Makes one call.
 fn call_once(
     progress: Progress,
-    terms: &mut [u32; TERMS],
-    stocks: &mut [u32; STOCKS],
-    handles: &mut [u64; STORE],
-    lengths: &mut [u16; STORE],
-    links: &mut [u32; LINKS],
-    counts: &mut [u64; COUNTS],
+    tables: &mut Tables,
 ) -> Progress
-    requires { Valid progress.control (tables terms.old stocks.old handles.old lengths.old links.old counts.old) }
+    requires { Valid progress.control tables.old }
     ensures { Goes 1 progress
-        (tables terms.old stocks.old handles.old lengths.old links.old
-        counts.old) result
-        (tables terms.new stocks.new handles.new lengths.new links.new
-        counts.new) }
+        tables.old result
+        tables.new }
 {
     let draws = draw(progress.maker);
     let quiet = progress.maker.quiet;
     let call = call_of(quiet, k_of(draws.a), draws.b, draws.c, draws.d);
     let maker = draws.maker;
     let taken = take(
-        progress, terms, stocks, handles, lengths, links, counts, maker, call,
+        progress, tables, maker, call,
     );
     taken.progress
 }
@@ -305,25 +286,18 @@ fn call_once(
 // Makes so many calls.
 pub fn calls(
     progress: Progress,
-    terms: &mut [u32; TERMS],
-    stocks: &mut [u32; STOCKS],
-    handles: &mut [u64; STORE],
-    lengths: &mut [u16; STORE],
-    links: &mut [u32; LINKS],
-    counts: &mut [u64; COUNTS],
+    tables: &mut Tables,
     count: u32,
 ) -> Progress
-    requires { Valid progress.control (tables terms.old stocks.old handles.old lengths.old links.old counts.old) }
+    requires { Valid progress.control tables.old }
     ensures { Goes count progress
-        (tables terms.old stocks.old handles.old lengths.old links.old
-        counts.old) result
-        (tables terms.new stocks.new handles.new lengths.new links.new
-        counts.new) }
+        tables.old result
+        tables.new }
 {
     let mut at = progress;
     let mut made: u32 = 0;
     while made < count {
-        at = call_once(at, terms, stocks, handles, lengths, links, counts);
+        at = call_once(at, tables);
         made += 1;
     }
     at

@@ -23,7 +23,7 @@ use Rattle.printer.specs.Appended.{Appended}
 use Rattle.printer.specs.Printed.{line_room, LineWritten}
 use Rattle.printer.proofs.Appending.{appended_front, appended_length}
 use Rattle.tables.specs.declared.Control.{Control}
-use Rattle.tables.specs.Tables.{Tables}
+use Rattle.tables.specs.declared.Tables.{Tables}
 use Rattle.tables.specs.Meaning.{core_of, whole_of}
 use Rattle.tables.specs.Invariant.{Valid}
 use Rattle.tables.proofs.Promises.{core_of-limits}

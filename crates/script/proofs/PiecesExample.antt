@@ -19,7 +19,7 @@ use Rattle.printer.specs.Printed.{line_room, Printed}
 use Rattle.reader.specs.LineSpans.{line_end, span_at, LineEnd}
 use Rattle.reader.proofs.LineEnds.{span_end}
 use Rattle.tables.specs.declared.Control.{Control}
-use Rattle.tables.specs.Tables.{Tables}
+use Rattle.tables.specs.declared.Tables.{Tables}
 use Rattle.tables.specs.Meaning.{core_of, whole_of}
 use Rattle.tables.specs.Invariant.{Valid}
 use Rattle.tables.specs.Places.{Promised}

@@ -17,7 +17,7 @@ use Rattle.grammar.specs.Printout.{whole_from, printout_for, printout_in}
 use Rattle.printer.specs.Printed.{line_room, Printed}
 use Rattle.printer.proofs.Appending.{appended_front}
 use Rattle.tables.specs.declared.Control.{Control}
-use Rattle.tables.specs.Tables.{Tables}
+use Rattle.tables.specs.declared.Tables.{Tables}
 use Rattle.tables.specs.Meaning.{core_of, whole_of}
 use Rattle.tables.specs.Invariant.{Valid}
 use Rattle.tables.proofs.RunCounts.{shut_whole}

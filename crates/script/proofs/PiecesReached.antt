@@ -9,7 +9,7 @@ use Rattle.grammar.specs.Bytes.{text_limit}
 use Rattle.grammar.specs.Printout.{whole_from}
 use Rattle.printer.specs.Printed.{line_room}
 use Rattle.tables.specs.declared.Control.{Control}
-use Rattle.tables.specs.Tables.{Tables}
+use Rattle.tables.specs.declared.Tables.{Tables}
 use Rattle.tables.specs.Meaning.{whole_of}
 use Rattle.tables.specs.Invariant.{Valid}
 use Rattle.grammar.specs.declared.Audience.{Audience}

@@ -27,7 +27,8 @@ use Rattle.order.specs.Order.{Absent}
 use Rattle.order.specs.Owner.{owner}
 use Rattle.tables.specs.declared.Control.{Control}
 use Rattle.tables.specs.declared.Answered.{Answered}
-use Rattle.tables.specs.Tables.{Tables, field, head_at, count_at, ring}
+use Rattle.tables.specs.declared.Tables.{Tables}
+use Rattle.tables.specs.Tables.{field, head_at, count_at, ring}
 use Rattle.tables.specs.Controls.{with_rates, with_marks, with_waiting}
 use Rattle.tables.specs.Meaning.{state_of, core_of}
 use Rattle.tables.specs.Numbers.{first_failed, refusal}

@@ -5,7 +5,7 @@ use mathlib.Core.List.{List, ◌++◌, append_cancel_right}
 use native.Mathlib.Omega.{arith}
 use Rattle.definitions.specs.Counts.{Whole}
 use Rattle.tables.specs.declared.Control.{Control}
-use Rattle.tables.specs.Tables.{Tables}
+use Rattle.tables.specs.declared.Tables.{Tables}
 use Rattle.tables.specs.Meaning.{core_of, whole_of}
 use Rattle.tables.proofs.UnusedPlaces.{whole_same, unused_unseen}
 use Rattle.grammar.specs.declared.Audience.{Audience}

@@ -11,7 +11,7 @@ use Rattle.grammar.specs.Printout.{printed_from, whole_from, printout_for}
 use Rattle.printer.specs.Printed.{line_room}
 use Rattle.reader.specs.LineSpans.{between}
 use Rattle.tables.specs.declared.Control.{Control}
-use Rattle.tables.specs.Tables.{Tables}
+use Rattle.tables.specs.declared.Tables.{Tables}
 use Rattle.tables.specs.Meaning.{core_of, whole_of}
 use Rattle.tables.specs.Invariant.{Valid}
 use Rattle.script.specs.declared.Progress.{Progress}

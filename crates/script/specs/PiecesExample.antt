@@ -10,7 +10,7 @@ use Rattle.grammar.specs.Bytes.{bytes, text_limit}
 use Rattle.grammar.specs.Printout.{whole_from}
 use Rattle.printer.specs.Printed.{line_room}
 use Rattle.tables.specs.declared.Control.{Control}
-use Rattle.tables.specs.Tables.{Tables}
+use Rattle.tables.specs.declared.Tables.{Tables}
 use Rattle.tables.specs.Meaning.{whole_of}
 use Rattle.tables.specs.Invariant.{Valid}
 use Rattle.script.specs.declared.Progress.{Progress}

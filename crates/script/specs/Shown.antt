@@ -18,7 +18,7 @@ use Rattle.draw.specs.Samples.{sum_of}
 use Rattle.notes.specs.ReasonLeft.{reason_left}
 use Rattle.slot.specs.declared.Ticked.{Ticked}
 use Rattle.tables.specs.declared.Control.{Control}
-use Rattle.tables.specs.Tables.{Tables}
+use Rattle.tables.specs.declared.Tables.{Tables}
 use Rattle.tables.specs.Meaning.{core_of}
 use Rattle.tables.specs.Places.{Promised}
 

@@ -8,7 +8,7 @@ use Rattle.definitions.specs.Event.{Open, Join, Arrive, Tick}
 use Rattle.definitions.specs.Core.{step}
 use Rattle.definitions.specs.History.{start, ◌then◌, Trace}
 use Rattle.tables.specs.declared.Control.{Control}
-use Rattle.tables.specs.Tables.{Tables}
+use Rattle.tables.specs.declared.Tables.{Tables}
 use Rattle.tables.specs.Meaning.{core_of}
 use Rattle.tables.specs.Run.{Reached, calls_of}
 use Rattle.tables.specs.Unused.{waiting_places, DifferUnused, overwritten}

@@ -5,7 +5,7 @@ use Rattle.definitions.specs.History.{Trace, begin, ◌and◌}
 use Rattle.grammar.specs.declared.Audience.{Audience}
 use Rattle.grammar.specs.Printout.{printed}
 use Rattle.tables.specs.declared.Control.{Control}
-use Rattle.tables.specs.Tables.{Tables}
+use Rattle.tables.specs.declared.Tables.{Tables}
 use Rattle.tables.specs.Meaning.{whole_of}
 use Rattle.tables.specs.Invariant.{Valid}
 use Rattle.tables.specs.Run.{calls_of}

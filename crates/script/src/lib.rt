@@ -7,7 +7,8 @@ ghost use Rattle.definitions.specs.Sameness.{is_tick};
 ghost use Rattle.grammar.specs.Calls.{event_of};
 ghost use Rattle.printer.specs.Printed.{line_room, LineWritten};
 ghost use Rattle.reader.specs.LineSpans.{is_end};
-ghost use Rattle.tables.specs.Tables.{Tables, tables};
+ghost use Rattle.tables.specs.declared.Tables.{Tables};
+ghost use Rattle.tables.specs.Tables.{tables};
 ghost use Rattle.tables.specs.Meaning.{core_of};
 ghost use Rattle.tables.specs.Invariant.{Valid};
 ghost use Rattle.tables.specs.Places.{Promised};
@@ -49,20 +50,13 @@ fn undrawn(answered: Answered, generator: Generator) -> Ticked
 // Carries a call out, and gives beside its answer what a tick drew.
 fn perform_told(
     control: Control,
-    terms: &mut [u32; TERMS],
-    stocks: &mut [u32; STOCKS],
-    handles: &mut [u64; STORE],
-    lengths: &mut [u16; STORE],
-    links: &mut [u32; LINKS],
-    counts: &mut [u64; COUNTS],
+    tables: &mut Tables,
     call: Call,
 ) -> Ticked
-    requires { Valid control (tables terms.old stocks.old handles.old lengths.old links.old counts.old) }
+    requires { Valid control tables.old }
     ensures { PerformedCall call control
-        (tables terms.old stocks.old handles.old lengths.old links.old
-        counts.old) result
-        (tables terms.new stocks.new handles.new lengths.new links.new
-        counts.new) }
+        tables.old result
+        tables.new }
 {
     let generator = control.generator;
     match call {
@@ -72,7 +66,7 @@ fn perform_told(
             seed,
         } => undrawn(
             opening::open(
-                control, terms, stocks, handles, lengths, links, counts, threshold, discipline,
+                control, tables, threshold, discipline,
                 seed,
             ),
             generator,
@@ -84,7 +78,7 @@ fn perform_told(
             burst,
         } => undrawn(
             settings::join(
-                control, terms, stocks, handles, lengths, links, counts, id, kind, rate, burst,
+                control, tables, id, kind, rate, burst,
             ),
             generator,
         ),
@@ -95,50 +89,43 @@ fn perform_told(
             burst,
         } => undrawn(
             settings::change(
-                control, terms, stocks, handles, lengths, links, counts, id, kind, rate, burst,
+                control, tables, id, kind, rate, burst,
             ),
             generator,
         ),
         Call::Leave { id } => undrawn(
-            settings::leave(control, terms, stocks, handles, lengths, links, counts, id),
+            settings::leave(control, tables, id),
             generator,
         ),
         Call::Load { id, dummies } => undrawn(
             traffic::load(
-                control, terms, stocks, handles, lengths, links, counts, id, dummies,
+                control, tables, id, dummies,
             ),
             generator,
         ),
         Call::Arrive { id, packet } => undrawn(
             traffic::arrive(
-                control, terms, stocks, handles, lengths, links, counts, id, packet,
+                control, tables, id, packet,
             ),
             generator,
         ),
-        Call::Tick => slot::tick(control, terms, stocks, handles, lengths, links, counts),
+        Call::Tick => slot::tick(control, tables),
     }
 }
 
 // Carries a call out.
 pub fn perform(
     control: Control,
-    terms: &mut [u32; TERMS],
-    stocks: &mut [u32; STOCKS],
-    handles: &mut [u64; STORE],
-    lengths: &mut [u16; STORE],
-    links: &mut [u32; LINKS],
-    counts: &mut [u64; COUNTS],
+    tables: &mut Tables,
     call: Call,
 ) -> Answered
-    requires { Valid control (tables terms.old stocks.old handles.old lengths.old links.old counts.old) }
+    requires { Valid control tables.old }
     ensures { Promised (event_of call) control
-        (tables terms.old stocks.old handles.old lengths.old links.old
-        counts.old) result
-        (tables terms.new stocks.new handles.new lengths.new links.new
-        counts.new) }
+        tables.old result
+        tables.new }
 {
     let performed = perform_told(
-        control, terms, stocks, handles, lengths, links, counts, call,
+        control, tables, call,
     );
     performed.answered
 }
@@ -218,21 +205,14 @@ fn line(
     out: &mut [u8],
     written: usize,
     control: Control,
-    terms: &mut [u32; TERMS],
-    stocks: &mut [u32; STOCKS],
-    handles: &mut [u64; STORE],
-    lengths: &mut [u16; STORE],
-    links: &mut [u32; LINKS],
-    counts: &mut [u64; COUNTS],
+    tables: &mut Tables,
 ) -> Progress
-    requires { Valid control (tables terms.old stocks.old handles.old lengths.old links.old counts.old)
+    requires { Valid control tables.old
         × (at < length text.now) × (written + line_room ≤ length out.old) }
     ensures { Walked audience text.now at control
-        (tables terms.old stocks.old handles.old lengths.old links.old
-        counts.old)
+        tables.old
         (take written out.old) out.new result
-        (tables terms.new stocks.new handles.new lengths.new links.new
-        counts.new) × (at < result.next) }
+        tables.new × (at < result.next) }
 {
     let span = reader::line_at(text, at);
     let end = span.end;
@@ -255,7 +235,7 @@ fn line(
     };
     let ticked = is_tick(call);
     let performed = perform_told(
-        control, terms, stocks, handles, lengths, links, counts, call,
+        control, tables, call,
     );
     let answered = performed.answered;
     let answer = answered.answer;
@@ -305,28 +285,20 @@ pub fn piece(
     at: usize,
     out: &mut [u8],
     control: Control,
-    terms: &mut [u32; TERMS],
-    stocks: &mut [u32; STOCKS],
-    handles: &mut [u64; STORE],
-    lengths: &mut [u16; STORE],
-    links: &mut [u32; LINKS],
-    counts: &mut [u64; COUNTS],
+    tables: &mut Tables,
 ) -> Progress
-    requires { Valid control (tables terms.old stocks.old handles.old lengths.old links.old counts.old) }
+    requires { Valid control tables.old }
     ensures { Piece audience text.now at control
-        (tables terms.old stocks.old handles.old lengths.old links.old
-        counts.old)
+        tables.old
         out.new result
-        (tables terms.new stocks.new handles.new lengths.new links.new
-        counts.new) }
+        tables.new }
 {
     let mut core = control;
     let mut place = at;
     let mut written: usize = 0;
     while goes_on(text, place, out.len(), written) {
         let progress = line(
-            audience, text, place, out, written, core, terms, stocks, handles, lengths, links,
-            counts,
+            audience, text, place, out, written, core, tables,
         );
         core = progress.control;
         place = progress.next;

@@ -11,7 +11,7 @@ use Rattle.definitions.proofs.Laws.Checked.{Passed}
 use Rattle.definitions.proofs.Laws.Rates.{held, held_active}
 use Rattle.definitions.proofs.Limits.Client.{rate_high_lem, burst_high_lem, terms_passed}
 use Rattle.tables.specs.declared.Control.{Control}
-use Rattle.tables.specs.Tables.{Tables}
+use Rattle.tables.specs.declared.Tables.{Tables}
 use Rattle.tables.specs.Controls.{with_waiting}
 use Rattle.tables.specs.Meaning.{state_of}
 use Rattle.tables.specs.Invariant.{SoundCore}

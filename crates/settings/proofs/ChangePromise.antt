@@ -24,7 +24,8 @@ use Rattle.definitions.proofs.Laws.Tests.{true-false, eqb-cases, cond_same}
 use Rattle.counts.specs.CountTable.{for_one, Entered}
 use Rattle.tables.specs.declared.Control.{Control}
 use Rattle.tables.specs.declared.Answered.{Answered}
-use Rattle.tables.specs.Tables.{Tables, tables, rate_at, count_at}
+use Rattle.tables.specs.declared.Tables.{Tables}
+use Rattle.tables.specs.Tables.{tables, rate_at, count_at}
 use Rattle.tables.specs.Controls.{with_rates}
 use Rattle.tables.specs.Meaning.{kind_at, client_at, stock_at, side_of, state_of, core_of}
 use Rattle.tables.specs.Invariant.{SoundCore, Valid}

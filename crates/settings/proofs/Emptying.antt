@@ -18,7 +18,8 @@ use Rattle.order.specs.Order.{Sound, Ordered}
 use Rattle.order.specs.Owner.{owner}
 use Rattle.order.proofs.OrderWalk.{ordered-walked}
 use Rattle.tables.specs.declared.Control.{Control}
-use Rattle.tables.specs.Tables.{Tables, tables, pool_column, head_column, count_column, field, count_at, ring}
+use Rattle.tables.specs.declared.Tables.{Tables}
+use Rattle.tables.specs.Tables.{tables, pool_column, head_column, count_column, field, count_at, ring}
 use Rattle.tables.specs.Meaning.{kind_at, packet_at, queue_at, client_at, stock_at, stocks_of, order_of, side_of}
 use Rattle.tables.specs.Invariant.{Shape}
 use Rattle.tables.proofs.QueueRing.{queue_length}

@@ -12,7 +12,8 @@ use Rattle.definitions.specs.Limits.{LimitsBy, ClientLimits}
 use Rattle.definitions.proofs.Laws.Sums.{sum_below_part}
 use Rattle.definitions.proofs.Laws.Rates.{held, rates-put}
 use Rattle.tables.specs.declared.Control.{Control}
-use Rattle.tables.specs.Tables.{Tables, rate_at}
+use Rattle.tables.specs.declared.Tables.{Tables}
+use Rattle.tables.specs.Tables.{rate_at}
 use Rattle.tables.specs.Meaning.{client_at, clients_of, state_of}
 use Rattle.tables.specs.Invariant.{Shape, SoundCore}
 use Rattle.tables.proofs.Touch.{client_own}

@@ -19,7 +19,7 @@ use Rattle.counts.specs.CountTable.{for_one, Entered}
 use Rattle.order.specs.Owner.{places_of}
 use Rattle.tables.specs.declared.Control.{Control}
 use Rattle.tables.specs.declared.Answered.{Answered}
-use Rattle.tables.specs.Tables.{Tables}
+use Rattle.tables.specs.declared.Tables.{Tables}
 use Rattle.tables.specs.Controls.{with_rates}
 use Rattle.tables.specs.Meaning.{kind_at, client_at, clients_of, side_of, state_of}
 use Rattle.tables.specs.Invariant.{SoundCore, Valid}

@@ -19,7 +19,8 @@ use Rattle.definitions.proofs.Laws.Rates.{held}
 use Rattle.counts.specs.CountTable.{for_one, Entered}
 use Rattle.tables.specs.declared.Control.{Control}
 use Rattle.tables.specs.declared.Answered.{Answered}
-use Rattle.tables.specs.Tables.{Tables, tables}
+use Rattle.tables.specs.declared.Tables.{Tables}
+use Rattle.tables.specs.Tables.{tables}
 use Rattle.tables.specs.Controls.{with_rates}
 use Rattle.tables.specs.Meaning.{state_of}
 use Rattle.tables.specs.Invariant.{SoundCore, Valid}

@@ -14,7 +14,8 @@ use Rattle.definitions.proofs.Laws.Rates.{held}
 use Rattle.marks.specs.Marks.{marked}
 use Rattle.order.specs.Owner.{places_of}
 use Rattle.tables.specs.declared.Control.{Control}
-use Rattle.tables.specs.Tables.{Tables, tables, rate_column, burst_column, level_column, field, count_at, ring}
+use Rattle.tables.specs.declared.Tables.{Tables}
+use Rattle.tables.specs.Tables.{tables, rate_column, burst_column, level_column, field, count_at, ring}
 use Rattle.tables.specs.Controls.{with_rates, with_marks}
 use Rattle.tables.specs.Meaning.{kind_at, packet_at, queue_at, client_at, clients_of, stock_at, stocks_of, order_of, side_of, state_of}
 use Rattle.tables.specs.Invariant.{Shape, SoundCore}

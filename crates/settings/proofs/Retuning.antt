@@ -9,7 +9,8 @@ use Rattle.definitions.specs.Client.{is_active, Client, retuned}
 use Rattle.definitions.specs.State.{updated, put}
 use Rattle.definitions.proofs.Laws.Rates.{held, held_active}
 use Rattle.tables.specs.declared.Control.{Control}
-use Rattle.tables.specs.Tables.{Tables, tables, rate_column, burst_column, level_column, field}
+use Rattle.tables.specs.declared.Tables.{Tables}
+use Rattle.tables.specs.Tables.{tables, rate_column, burst_column, level_column, field}
 use Rattle.tables.specs.Controls.{with_rates}
 use Rattle.tables.specs.Meaning.{kind_at, packet_at, queue_at, client_at, clients_of, stock_at, stocks_of, order_of, side_of, state_of}
 use Rattle.tables.specs.Invariant.{Shape, SoundCore}

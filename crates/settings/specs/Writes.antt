@@ -9,7 +9,8 @@ use Rattle.marks.specs.Marks.{marked}
 use Rattle.order.specs.Order.{Sound, Ordered}
 use Rattle.order.specs.Owner.{owner, places_of}
 use Rattle.tables.specs.declared.Control.{Control}
-use Rattle.tables.specs.Tables.{Tables, tables, rate_column, burst_column, level_column, pool_column, count_column}
+use Rattle.tables.specs.declared.Tables.{Tables}
+use Rattle.tables.specs.Tables.{tables, rate_column, burst_column, level_column, pool_column, count_column}
 use Rattle.tables.specs.Tables.{written, rate_at, level_at, head_at, count_at, ring}
 use Rattle.tables.specs.Controls.{with_marks, with_waiting}
 use Rattle.tables.specs.Meaning.{kind_at, side_of}

@@ -9,7 +9,8 @@ ghost use Rattle.definitions.specs.Client.{kind_of, is_active, same_kind};
 ghost use Rattle.definitions.specs.Checks.{within, burst_fits, term_checks, join_checks, change_checks};
 ghost use Rattle.order.specs.Order.{Sound, Ordered};
 ghost use Rattle.order.specs.Owner.{places_of};
-ghost use Rattle.tables.specs.Tables.{Tables, tables, rate_at, count_at, ring};
+ghost use Rattle.tables.specs.declared.Tables.{Tables};
+ghost use Rattle.tables.specs.Tables.{tables, rate_at, count_at, ring};
 ghost use Rattle.tables.specs.Controls.{with_rates};
 ghost use Rattle.tables.specs.Meaning.{kind_at};
 ghost use Rattle.tables.specs.Invariant.{Valid};
@@ -22,7 +23,7 @@ use counts::{COUNTS, EMPTIED};
 use definitions::{BURST_LIMIT, IDS, INDIFFERENT, PLACES, PRIVATE, SHARES};
 use order::LINKS;
 use tables::{
-    Answered, BURST, COUNT, Control, HEAD, LEVEL, POOL, RATE, STOCKS, STORE, TERMS, UNOPENED,
+    Answered, BURST, COUNT, Control, HEAD, LEVEL, POOL, RATE, STOCKS, STORE, TERMS, Tables, UNOPENED,
 };
 
 // A client of neither kind, with rate and burst 0, is nobody.
@@ -265,90 +266,59 @@ fn waiting_of(stocks: &[u32; STOCKS], id: u32) -> u64
 // Sets an inactive id up with a client, whose counts begin at zero (paper 01, "Join"). Refused: 19, 4, 6, 7, 8, 9, 10.
 pub fn join(
     control: Control,
-    terms: &mut [u32; TERMS],
-    stocks: &mut [u32; STOCKS],
-    handles: &[u64; STORE],
-    lengths: &[u16; STORE],
-    links: &[u32; LINKS],
-    counts: &mut [u64; COUNTS],
+    tables: &mut Tables,
     id: u32,
     kind: u32,
     rate: u32,
     burst: u32,
 ) -> Answered
-    requires { Valid control (tables terms.old stocks.old handles.now lengths.now links.now counts.old) }
-    ensures { Promised (Join id kind rate burst) control
-        (tables terms.old stocks.old handles.now lengths.now links.now
-        counts.old) result
-        (tables terms.new stocks.new handles.now lengths.now links.now
-        counts.new) }
+    requires { Valid control tables.old }
+    ensures { Promised (Join id kind rate burst) control tables.old result tables.new }
 {
     let number = join_number(control, id, kind, rate, burst);
     if number != 0 {
         return tables::refused(control, number);
     }
-    let bare = clear(control, stocks, id);
-    counts::clear(counts, id);
-    tables::accepted(place_client(bare, terms, id, kind, rate, burst))
+    let bare = clear(control, &mut tables.stocks, id);
+    counts::clear(&mut tables.counts, id);
+    tables::accepted(place_client(bare, &mut tables.terms, id, kind, rate, burst))
 }
 
 // Gives an active client new terms, and a new start where its kind differs (paper 01, "Change"). What that empties is counted.
 // Refused: 19, 4, 5, 7, 8, 9, 10.
 pub fn change(
     control: Control,
-    terms: &mut [u32; TERMS],
-    stocks: &mut [u32; STOCKS],
-    handles: &[u64; STORE],
-    lengths: &[u16; STORE],
-    links: &mut [u32; LINKS],
-    counts: &mut [u64; COUNTS],
+    tables: &mut Tables,
     id: u32,
     kind: u32,
     rate: u32,
     burst: u32,
 ) -> Answered
-    requires { Valid control (tables terms.old stocks.old handles.now lengths.now links.old counts.old) }
-    ensures { Promised (Change id kind rate burst) control
-        (tables terms.old stocks.old handles.now lengths.now links.old
-        counts.old) result
-        (tables terms.new stocks.new handles.now lengths.now links.new
-        counts.new) }
+    requires { Valid control tables.old }
+    ensures { Promised (Change id kind rate burst) control tables.old result tables.new }
 {
-    let number = change_number(control, terms, id, kind, rate, burst);
+    let number = change_number(control, &tables.terms, id, kind, rate, burst);
     if number != 0 {
         return tables::refused(control, number);
     }
     if keeps_kind(control, id, kind) {
-        return tables::accepted(retune(control, terms, id, rate, burst));
+        return tables::accepted(retune(control, &mut tables.terms, id, rate, burst));
     }
-    counts::raise(counts, id, EMPTIED, waiting_of(stocks, id));
-    let bare = empty(control, stocks, links, id);
-    tables::accepted(place_client(bare, terms, id, kind, rate, burst))
+    counts::raise(&mut tables.counts, id, EMPTIED, waiting_of(&tables.stocks, id));
+    let bare = empty(control, &mut tables.stocks, &mut tables.links, id);
+    tables::accepted(place_client(bare, &mut tables.terms, id, kind, rate, burst))
 }
 
 // Takes an active client away, with all that it has, its counts too (paper 01, "Leave"). Refused: 19, 4, 5.
-pub fn leave(
-    control: Control,
-    terms: &mut [u32; TERMS],
-    stocks: &mut [u32; STOCKS],
-    handles: &[u64; STORE],
-    lengths: &[u16; STORE],
-    links: &mut [u32; LINKS],
-    counts: &mut [u64; COUNTS],
-    id: u32,
-) -> Answered
-    requires { Valid control (tables terms.old stocks.old handles.now lengths.now links.old counts.old) }
-    ensures { Promised (Leave id) control
-        (tables terms.old stocks.old handles.now lengths.now links.old
-        counts.old) result
-        (tables terms.new stocks.new handles.now lengths.now links.new
-        counts.new) }
+pub fn leave(control: Control, tables: &mut Tables, id: u32) -> Answered
+    requires { Valid control tables.old }
+    ensures { Promised (Leave id) control tables.old result tables.new }
 {
     let number = tables::active_number(control, id);
     if number != 0 {
         return tables::refused(control, number);
     }
-    let bare = empty(control, stocks, links, id);
-    counts::clear(counts, id);
-    tables::accepted(place_client(bare, terms, id, NO_KIND, 0, 0))
+    let bare = empty(control, &mut tables.stocks, &mut tables.links, id);
+    counts::clear(&mut tables.counts, id);
+    tables::accepted(place_client(bare, &mut tables.terms, id, NO_KIND, 0, 0))
 }

@@ -14,7 +14,7 @@ use Rattle.definitions.specs.Checks.{first_failed, active_checks}
 use Rattle.definitions.specs.Counts.{Tally, sheet_of, unless_unavailable, count_sheet}
 use Rattle.counts.specs.CountTable.{count_in}
 use Rattle.tables.specs.declared.Control.{Control}
-use Rattle.tables.specs.Tables.{Tables}
+use Rattle.tables.specs.declared.Tables.{Tables}
 use Rattle.tables.specs.Meaning.{state_of, core_of, counts_of}
 use Rattle.tables.specs.Numbers.{refusal}
 use Rattle.tables.proofs.ActiveChecks.{active_past}

@@ -3,7 +3,7 @@
 
 ghost use Rattle.std.specs.Prelude.{◌≡◌};
 ghost use Rattle.definitions.specs.Counts.{count_sheet};
-ghost use Rattle.tables.specs.Tables.{Tables};
+ghost use Rattle.tables.specs.declared.Tables.{Tables};
 ghost use Rattle.tables.specs.Meaning.{core_of, counts_of};
 
 use counts::COUNTS;

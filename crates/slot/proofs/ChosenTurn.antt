@@ -30,7 +30,8 @@ use Rattle.order.specs.Owner.{owner}
 use Rattle.order.proofs.OrderWalk.{ordered-walked}
 use Rattle.order.proofs.Owner.{front_earliest}
 use Rattle.tables.specs.declared.Control.{Control}
-use Rattle.tables.specs.Tables.{Tables, head_at, count_at, ring}
+use Rattle.tables.specs.declared.Tables.{Tables}
+use Rattle.tables.specs.Tables.{head_at, count_at, ring}
 use Rattle.tables.specs.Meaning.{packet_at, queue_at, client_at, clients_of, stock_at, stocks_of, order_of, side_of, state_of}
 use Rattle.tables.specs.Invariant.{Shape, SoundCore}
 use Rattle.tables.proofs.MarkedKinds.{kind_indifferent, kind_private}

@@ -13,7 +13,8 @@ use Rattle.definitions.specs.State.{updated, put, without_first}
 use Rattle.definitions.specs.Tick.{without_packet, sent}
 use Rattle.marks.specs.Marks.{marked}
 use Rattle.tables.specs.declared.Control.{Control}
-use Rattle.tables.specs.Tables.{Tables, tables, pool_column, entry, written, field, pool_at, count_at, ring}
+use Rattle.tables.specs.declared.Tables.{Tables}
+use Rattle.tables.specs.Tables.{tables, pool_column, entry, written, field, pool_at, count_at, ring}
 use Rattle.tables.specs.Meaning.{queue_at, client_at, clients_of, stock_at, stocks_of, order_of, side_of, state_of}
 use Rattle.tables.specs.Invariant.{Shape}
 use Rattle.tables.proofs.Touch.{stock_own}

@@ -27,7 +27,8 @@ use Rattle.order.specs.Owner.{owner, places_of}
 use Rattle.order.proofs.OrderWalk.{ordered-walked}
 use Rattle.order.proofs.FirstPlaceTaken.{places_of-taken, taken-others, taken-without_first}
 use Rattle.tables.specs.declared.Control.{Control}
-use Rattle.tables.specs.Tables.{Tables, tables, pool_column, head_column, count_column, stock_columns, written, field, pool_at, head_at, count_at, ring}
+use Rattle.tables.specs.declared.Tables.{Tables}
+use Rattle.tables.specs.Tables.{tables, pool_column, head_column, count_column, stock_columns, written, field, pool_at, head_at, count_at, ring}
 use Rattle.tables.specs.Controls.{with_waiting}
 use Rattle.tables.specs.Meaning.{kind_at, packet_at, queue_at, client_at, clients_of, stock_at, stocks_of, order_of, side_of, state_of}
 use Rattle.tables.specs.Invariant.{Shape}

@@ -13,7 +13,8 @@ use Rattle.definitions.specs.State.{State, updated}
 use Rattle.definitions.specs.Checks.{active_rate, rates}
 use Rattle.definitions.specs.Tick.{Turn, refill_all, slotted}
 use Rattle.tables.specs.declared.Control.{Control}
-use Rattle.tables.specs.Tables.{Tables, tables, rate_column, burst_column, level_at}
+use Rattle.tables.specs.declared.Tables.{Tables}
+use Rattle.tables.specs.Tables.{tables, rate_column, burst_column, level_at}
 use Rattle.tables.specs.Meaning.{kind_at, packet_at, queue_at, client_at, clients_of, stock_at, stocks_of, order_of, side_of, state_of}
 use Rattle.tables.specs.Invariant.{Shape}
 use Rattle.tables.proofs.MarkedKinds.{kind_indifferent}

@@ -20,7 +20,7 @@ use Rattle.definitions.proofs.Limits.Turns.{rule1_below, rule2_below}
 use Rattle.counts.specs.CountTable.{Entered, SenderBelow}
 use Rattle.tables.specs.declared.Control.{Control}
 use Rattle.tables.specs.declared.Answered.{Answered}
-use Rattle.tables.specs.Tables.{Tables}
+use Rattle.tables.specs.declared.Tables.{Tables}
 use Rattle.tables.specs.Meaning.{state_of}
 use Rattle.tables.specs.Invariant.{Valid}
 use Rattle.tables.specs.Counting.{Counts}

@@ -18,7 +18,8 @@ use Rattle.definitions.proofs.Limits.Turns.{Contender, rule1_below, rule1_conten
 use Rattle.generator.specs.declared.Generator.{Generator}
 use Rattle.marks.specs.Marks.{marked}
 use Rattle.tables.specs.declared.Control.{Control}
-use Rattle.tables.specs.Tables.{Tables, count_at}
+use Rattle.tables.specs.declared.Tables.{Tables}
+use Rattle.tables.specs.Tables.{count_at}
 use Rattle.tables.specs.Controls.{with_generator}
 use Rattle.tables.specs.Meaning.{kind_at, client_at, clients_of, stock_at, stocks_of, order_of, side_of, state_of}
 use Rattle.tables.specs.Invariant.{Shape}

@@ -23,7 +23,8 @@ use Rattle.draw.proofs.Samples.{undrawn-stands}
 use Rattle.marks.specs.Marks.{marked}
 use Rattle.tables.specs.declared.Control.{Control}
 use Rattle.tables.specs.declared.Answered.{Answered}
-use Rattle.tables.specs.Tables.{Tables, tables, rate_at, burst_at, level_at}
+use Rattle.tables.specs.declared.Tables.{Tables}
+use Rattle.tables.specs.Tables.{tables, rate_at, burst_at, level_at}
 use Rattle.tables.specs.Meaning.{client_at, clients_of, state_of, core_of}
 use Rattle.tables.specs.Invariant.{Valid}
 use Rattle.tables.specs.Promise.{Meets}

@@ -8,7 +8,8 @@ use Rattle.definitions.specs.Tick.{sent}
 use Rattle.marks.specs.Marks.{marked}
 use Rattle.order.specs.Order.{Sound, Ordered}
 use Rattle.tables.specs.declared.Control.{Control}
-use Rattle.tables.specs.Tables.{Tables, tables, head_column, count_column, written, head_at, count_at}
+use Rattle.tables.specs.declared.Tables.{Tables}
+use Rattle.tables.specs.Tables.{tables, head_column, count_column, written, head_at, count_at}
 use Rattle.tables.specs.Controls.{with_waiting}
 use Rattle.tables.specs.Meaning.{clients_of, stocks_of, order_of, state_of}
 use Rattle.tables.specs.Invariant.{Shape, SoundCore}

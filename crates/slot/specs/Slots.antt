@@ -4,7 +4,8 @@ use Rattle.std.specs.Prelude.{ℕ, ◌≡◌, List}
 use Rattle.definitions.specs.State.{State, updated}
 use Rattle.definitions.specs.Tick.{Turn, turn, outcome_by, side_after}
 use Rattle.tables.specs.declared.Control.{Control}
-use Rattle.tables.specs.Tables.{Tables, tables}
+use Rattle.tables.specs.declared.Tables.{Tables}
+use Rattle.tables.specs.Tables.{tables}
 use Rattle.tables.specs.Meaning.{state_of}
 use Rattle.tables.specs.Invariant.{Shape, SoundCore}
 use Rattle.slot.specs.declared.Choice.{Choice}

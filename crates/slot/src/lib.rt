@@ -20,12 +20,11 @@ ghost use Rattle.slot.specs.Sends.{Settled, popped, Unlinked, SomeSender, Spends
 ghost use Rattle.slot.specs.Slots.{SomeDue, Does};
 ghost use Rattle.slot.specs.Buckets.{Refillable, Refilled};
 
-use counts::COUNTS;
 use definitions::{Answer, FIRST_COME, IDS, LONGEST, Outcome, PLACES, Packet};
 use draw::Sample;
 use generator::Generator;
 use order::LINKS;
-use tables::{Answered, BURST, COUNT, Control, HEAD, LEVEL, POOL, STOCKS, STORE, TERMS, UNOPENED};
+use tables::{Answered, BURST, COUNT, Control, HEAD, LEVEL, POOL, STOCKS, STORE, TERMS, Tables, UNOPENED};
 
 // From how many indifferent ids on all ids are gone through.
 const DENSE: u32 = 12;
@@ -321,23 +320,15 @@ pub struct Ticked {
 // Refused: 19.
 pub fn tick(
     control: Control,
-    terms: &mut [u32; TERMS],
-    stocks: &mut [u32; STOCKS],
-    handles: &[u64; STORE],
-    lengths: &[u16; STORE],
-    links: &mut [u32; LINKS],
-    counts: &mut [u64; COUNTS],
+    tables: &mut Tables,
 ) -> Ticked
-    requires { Valid control (tables terms.old stocks.old handles.now lengths.now links.old counts.old) }
+    requires { Valid control tables.old }
     ensures promised { Promised Tick control
-        (tables terms.old stocks.old handles.now lengths.now links.old
-        counts.old)
+        tables.old
         result.answered
-        (tables terms.new stocks.new handles.now lengths.now links.new
-        counts.new) }
+        tables.new }
     ensures stands_for { StandsFor result.sample (draws_of (core_of control
-        (tables terms.old stocks.old handles.now lengths.now links.old
-        counts.old))) }
+        tables.old)) }
 {
     if !control.opened {
         let answered = tables::refused(control, UNOPENED);
@@ -346,13 +337,13 @@ pub fn tick(
             sample: draw::undrawn(control.generator),
         };
     }
-    let choice = turn(control, terms, links);
+    let choice = turn(control, &tables.terms, &tables.links);
     let sample = choice.sample;
-    let sent = spend(control, stocks, handles, lengths, links, choice);
-    refill_all(control.indifferent, terms);
+    let sent = spend(control, &mut tables.stocks, &tables.handles, &tables.lengths, &mut tables.links, choice);
+    refill_all(control.indifferent, &mut tables.terms);
     let after = sent.control;
     let outcome = sent.outcome;
-    counts::send(counts, outcome);
+    counts::send(&mut tables.counts, outcome);
     let answered = Answered {
         control: after,
         answer: Answer::Slot { outcome },

@@ -10,7 +10,7 @@ use Rattle.grammar.specs.declared.Audience.{Audience}
 use Rattle.grammar.specs.Bytes.{text_limit}
 use Rattle.grammar.specs.Printout.{printout_for}
 use Rattle.tables.specs.declared.Control.{Control}
-use Rattle.tables.specs.Tables.{Tables}
+use Rattle.tables.specs.declared.Tables.{Tables}
 use Rattle.script.specs.declared.Progress.{Progress}
 use Rattle.script.specs.Pieces.{Start, Piece}
 use Rattle.script.proofs.PiecesPrinted.{pieces_printed}

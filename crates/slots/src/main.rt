@@ -47,12 +47,7 @@ fn write_pieces(
     text: &[u8],
     out: &mut [u8],
     first: Progress,
-    terms: &mut [u32; TERMS],
-    stocks: &mut [u32; STOCKS],
-    handles: &mut [u64; STORE],
-    lengths: &mut [u16; STORE],
-    links: &mut [u32; LINKS],
-    counts: &mut [u64; COUNTS],
+    tables: &mut Tables,
 ) -> Writing
     requires { Start text.now out.old first × (piece_room ≡ length out.old) }
     ensures { HandedOn result (printout_for audience text.now) }
@@ -69,7 +64,7 @@ fn write_pieces(
             return Writing::Bytes(total);
         }
         let piece = script::piece(
-            audience, text, at, out, control, terms, stocks, handles, lengths, links, counts,
+            audience, text, at, out, control, tables,
         );
         control = piece.control;
         at = piece.next;
@@ -82,12 +77,7 @@ fn write_pieces(
 fn write_printout(rt: &impl Print, audience: Audience, text: &[u8]) -> Writing
     ensures { HandedOn result (printout_for audience text.now) }
 {
-    let mut terms: [u32; TERMS] = [0; TERMS];
-    let mut stocks: [u32; STOCKS] = [0; STOCKS];
-    let mut handles: [u64; STORE] = [0; STORE];
-    let mut lengths: [u16; STORE] = [0; STORE];
-    let mut links: [u32; LINKS] = [0; LINKS];
-    let mut counts: [u64; COUNTS] = [0; COUNTS];
+    let mut tables = Tables::filled(0);
     let mut out = io::buffer();
     let first = script::start(text, &mut out);
     write_pieces(
@@ -96,12 +86,7 @@ fn write_printout(rt: &impl Print, audience: Audience, text: &[u8]) -> Writing
         text,
         &mut out,
         first,
-        &mut terms,
-        &mut stocks,
-        &mut handles,
-        &mut lengths,
-        &mut links,
-        &mut counts,
+        &mut tables,
     )
 }
 
@@ -109,23 +94,13 @@ fn write_printout(rt: &impl Print, audience: Audience, text: &[u8]) -> Writing
 fn write_forecast(rt: &impl Print, text: &[u8], ticks: u32) -> Writing
     ensures { HandedOn result (forecast_behind text.now ticks) }
 {
-    let mut terms: [u32; TERMS] = [0; TERMS];
-    let mut stocks: [u32; STOCKS] = [0; STOCKS];
-    let mut handles: [u64; STORE] = [0; STORE];
-    let mut lengths: [u16; STORE] = [0; STORE];
-    let mut links: [u32; LINKS] = [0; LINKS];
-    let mut counts: [u64; COUNTS] = [0; COUNTS];
+    let mut tables = Tables::filled(0);
     let mut out = io::buffer();
     let written = forecast::forecast(
         text,
         ticks,
         &mut out,
-        &mut terms,
-        &mut stocks,
-        &mut handles,
-        &mut lengths,
-        &mut links,
-        &mut counts,
+        &mut tables,
     );
     streams::write_text(rt, &out[..written])
 }
@@ -134,22 +109,12 @@ fn write_forecast(rt: &impl Print, text: &[u8], ticks: u32) -> Writing
 fn write_bill(rt: &impl Print, text: &[u8]) -> Writing
     ensures { HandedOn result (counts_printed text.now) }
 {
-    let mut terms: [u32; TERMS] = [0; TERMS];
-    let mut stocks: [u32; STOCKS] = [0; STOCKS];
-    let mut handles: [u64; STORE] = [0; STORE];
-    let mut lengths: [u16; STORE] = [0; STORE];
-    let mut links: [u32; LINKS] = [0; LINKS];
-    let mut counts: [u64; COUNTS] = [0; COUNTS];
+    let mut tables = Tables::filled(0);
     let mut out = io::large_buffer();
     let written = bill::bill(
         text,
         &mut out,
-        &mut terms,
-        &mut stocks,
-        &mut handles,
-        &mut lengths,
-        &mut links,
-        &mut counts,
+        &mut tables,
     );
     streams::write_text(rt, &out[..written])
 }

@@ -14,7 +14,8 @@ use Rattle.definitions.specs.Client.{is_active}
 use Rattle.definitions.specs.State.{State}
 use Rattle.definitions.specs.Checks.{Check, active_checks}
 use Rattle.tables.specs.declared.Control.{Control}
-use Rattle.tables.specs.Tables.{Tables, tables}
+use Rattle.tables.specs.declared.Tables.{Tables}
+use Rattle.tables.specs.Tables.{tables}
 use Rattle.tables.specs.Meaning.{state_of}
 use Rattle.tables.specs.Numbers.{first_failed, refusal}
 

@@ -16,7 +16,7 @@ use Rattle.definitions.proofs.Stretches.Greedy.{greedy_exact}
 use Rattle.definitions.proofs.Stretches.Guarantee.{guarantee as guaranteed}
 use Rattle.definitions.proofs.Stretches.Switching.{switching as switched}
 use Rattle.tables.specs.declared.Control.{Control}
-use Rattle.tables.specs.Tables.{Tables}
+use Rattle.tables.specs.declared.Tables.{Tables}
 use Rattle.tables.specs.Meaning.{core_of}
 use Rattle.tables.specs.Promise.{Meets}
 use Rattle.tables.specs.Run.{core_after, calls_of}

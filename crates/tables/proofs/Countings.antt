@@ -16,7 +16,7 @@ use Rattle.definitions.proofs.Laws.Tests.{true-false, eqb-cases, and_both}
 use Rattle.counts.specs.CountTable.{count_in, for_one, Entered}
 use Rattle.tables.specs.declared.Control.{Control}
 use Rattle.tables.specs.declared.Answered.{Answered}
-use Rattle.tables.specs.Tables.{Tables}
+use Rattle.tables.specs.declared.Tables.{Tables}
 use Rattle.tables.specs.Meaning.{core_of, counts_of}
 use Rattle.tables.specs.Invariant.{Valid}
 use Rattle.tables.specs.Counting.{Counts}

@@ -8,7 +8,7 @@ use Rattle.definitions.specs.History.{Trace, ◌and◌, after, answer_at, dealin
 use Rattle.definitions.specs.Stretch.{scheduler_from, stretch, behind}
 use Rattle.tables.specs.declared.Control.{Control}
 use Rattle.tables.specs.declared.Answered.{Answered}
-use Rattle.tables.specs.Tables.{Tables}
+use Rattle.tables.specs.declared.Tables.{Tables}
 use Rattle.tables.specs.Meaning.{core_of}
 use Rattle.tables.specs.Promise.{Meets}
 use Rattle.tables.specs.Run.{dealing, calls_of}

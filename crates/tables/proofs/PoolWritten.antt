@@ -10,7 +10,8 @@ use lib.ListN.{length-set}
 use Rattle.definitions.specs.Sizes.{ids}
 use Rattle.definitions.specs.State.{put}
 use Rattle.tables.specs.declared.Control.{Control}
-use Rattle.tables.specs.Tables.{Tables, tables, pool_column, head_column, count_column, stock_columns, field, written, ring}
+use Rattle.tables.specs.declared.Tables.{Tables}
+use Rattle.tables.specs.Tables.{tables, pool_column, head_column, count_column, stock_columns, field, written, ring}
 use Rattle.tables.specs.Meaning.{packet_at, queue_at, client_at, stock_at, stocks_of}
 use Rattle.tables.specs.Invariant.{Shape}
 use Rattle.tables.proofs.Fields.{only_set, store_own}

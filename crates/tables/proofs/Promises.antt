@@ -19,7 +19,8 @@ use Rattle.definitions.proofs.Laws.Checked.{Passed}
 use Rattle.definitions.proofs.Limits.{step-limits}
 use Rattle.tables.specs.declared.Control.{Control}
 use Rattle.tables.specs.declared.Answered.{Answered}
-use Rattle.tables.specs.Tables.{Tables, tables}
+use Rattle.tables.specs.declared.Tables.{Tables}
+use Rattle.tables.specs.Tables.{tables}
 use Rattle.tables.specs.Meaning.{packet_at, queue_at, client_at, clients_of, stock_at, stocks_of, order_of, side_of, state_of, core_of}
 use Rattle.tables.specs.Invariant.{Shape, SoundCore, Valid}
 use Rattle.tables.specs.Numbers.{first_failed, refusal}

@@ -11,7 +11,8 @@ use Rattle.definitions.specs.declared.Packet.{Packet}
 use Rattle.definitions.specs.Sizes.{ids, places}
 use Rattle.order.specs.Order.{sentinel, All, Absent}
 use Rattle.order.proofs.Owner.{place_below}
-use Rattle.tables.specs.Tables.{Tables, head_at, count_at, ring}
+use Rattle.tables.specs.declared.Tables.{Tables}
+use Rattle.tables.specs.Tables.{head_at, count_at, ring}
 use Rattle.tables.specs.Meaning.{packet_at, queue_at}
 use Rattle.tables.proofs.Fields.{places_positive, ring-length}
 

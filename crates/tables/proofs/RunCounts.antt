@@ -17,7 +17,7 @@ use Rattle.definitions.proofs.Counts.{counted, whole_behind_lem}
 use Rattle.definitions.proofs.ChosenSheet.{sheet_same}
 use Rattle.tables.specs.declared.Control.{Control}
 use Rattle.tables.specs.declared.Answered.{Answered}
-use Rattle.tables.specs.Tables.{Tables}
+use Rattle.tables.specs.declared.Tables.{Tables}
 use Rattle.tables.specs.Meaning.{core_of, counts_of, whole_of}
 use Rattle.tables.specs.Promise.{Meets}
 use Rattle.tables.specs.Places.{Promised}

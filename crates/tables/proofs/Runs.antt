@@ -18,7 +18,7 @@ use Rattle.definitions.proofs.Sameness.Theorem.{sameness}
 use Rattle.definitions.proofs.Limits.{limits}
 use Rattle.definitions.proofs.Fits.{fits}
 use Rattle.tables.specs.declared.Control.{Control}
-use Rattle.tables.specs.Tables.{Tables}
+use Rattle.tables.specs.declared.Tables.{Tables}
 use Rattle.tables.specs.Meaning.{core_of}
 use Rattle.tables.specs.Invariant.{Valid}
 use Rattle.tables.specs.Promise.{Meets}

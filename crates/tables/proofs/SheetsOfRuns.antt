@@ -18,7 +18,7 @@ use Rattle.definitions.proofs.ToldNotes.{tick_event}
 use Rattle.definitions.proofs.Sameness.TenantSheets.{tenant_sheets}
 use Rattle.tables.specs.declared.Control.{Control}
 use Rattle.tables.specs.declared.Answered.{Answered}
-use Rattle.tables.specs.Tables.{Tables}
+use Rattle.tables.specs.declared.Tables.{Tables}
 use Rattle.tables.specs.Meaning.{core_of}
 use Rattle.tables.specs.Promise.{Meets}
 use Rattle.tables.specs.Run.{Reached, begun, called, Run, calls_of, CodeDefined}

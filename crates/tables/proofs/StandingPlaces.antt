@@ -4,7 +4,7 @@ use mathlib.Core.Bool.{false}
 use Rattle.definitions.specs.History.{Trace}
 use Rattle.definitions.proofs.Laws.Tests.{or-false}
 use Rattle.tables.specs.declared.Control.{Control}
-use Rattle.tables.specs.Tables.{Tables}
+use Rattle.tables.specs.declared.Tables.{Tables}
 use Rattle.tables.specs.CallsFrom.{CallsFrom, here, called}
 use Rattle.tables.specs.Places.{PlacesStand, may_write, Promised, may_have_written, Standing}
 

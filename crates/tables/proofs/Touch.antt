@@ -23,7 +23,8 @@ use Rattle.marks.specs.Marks.{marked}
 use Rattle.order.specs.Order.{Sound, Ordered}
 use Rattle.order.specs.Owner.{owner, places_of}
 use Rattle.tables.specs.declared.Control.{Control}
-use Rattle.tables.specs.Tables.{Tables, rate_column, burst_column, level_column, pool_column, head_column, count_column, head_at, count_at, ring}
+use Rattle.tables.specs.declared.Tables.{Tables}
+use Rattle.tables.specs.Tables.{rate_column, burst_column, level_column, pool_column, head_column, count_column, head_at, count_at, ring}
 use Rattle.tables.specs.Meaning.{kind_at, packet_at, queue_at, client_at, clients_of, stock_at, stocks_of, side_of, state_of}
 use Rattle.tables.specs.Invariant.{Sized, Shape, SoundCore}
 use Rattle.tables.proofs.Fields.{OnlyAt, place_owner}

@@ -33,7 +33,8 @@ use Rattle.order.proofs.OrderWalk.{ordered-walked}
 use Rattle.counts.specs.CountTable.{count_in}
 use Rattle.tables.specs.declared.Control.{Control}
 use Rattle.tables.specs.declared.Answered.{Answered}
-use Rattle.tables.specs.Tables.{Tables, tables, head_at, count_at, ring}
+use Rattle.tables.specs.declared.Tables.{Tables}
+use Rattle.tables.specs.Tables.{tables, head_at, count_at, ring}
 use Rattle.tables.specs.Meaning.{kind_at, packet_at, queue_at, client_at, clients_of, stock_at, stocks_of, order_of, side_of, state_of, core_of, counts_of, whole_of}
 use Rattle.tables.specs.Invariant.{Shape, Valid}
 use Rattle.tables.specs.Promise.{Meets}

@@ -3,7 +3,7 @@ use Rattle.definitions.specs.Event.{Event}
 use Rattle.definitions.specs.History.{Trace, begin, ◌and◌}
 use Rattle.tables.specs.declared.Control.{Control}
 use Rattle.tables.specs.declared.Answered.{Answered}
-use Rattle.tables.specs.Tables.{Tables}
+use Rattle.tables.specs.declared.Tables.{Tables}
 use Rattle.tables.specs.Run.{dealing}
 
 -- what is promised where a call on a control and tables gives an answer with a control, and leaves tables

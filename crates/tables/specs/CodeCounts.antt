@@ -7,7 +7,7 @@ use Rattle.definitions.specs.Sameness.{kept}
 use Rattle.definitions.specs.Counts.{Count, tallied, wrapped, count_sheet}
 use Rattle.definitions.specs.Counted.{whole_behind, Settles}
 use Rattle.tables.specs.declared.Control.{Control}
-use Rattle.tables.specs.Tables.{Tables}
+use Rattle.tables.specs.declared.Tables.{Tables}
 use Rattle.tables.specs.Meaning.{core_of, counts_of, whole_of}
 use Rattle.tables.specs.Places.{Promised}
 use Rattle.tables.specs.Run.{calls_of}

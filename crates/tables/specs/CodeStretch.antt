@@ -10,7 +10,7 @@ use Rattle.definitions.specs.Greedy.{Greedy}
 use Rattle.definitions.specs.Switching.{bucket_of, refills, top_rate, admissions, affordable}
 use Rattle.definitions.specs.Guarantee.{steady, picks, private_active, demand, sure}
 use Rattle.tables.specs.declared.Control.{Control}
-use Rattle.tables.specs.Tables.{Tables}
+use Rattle.tables.specs.declared.Tables.{Tables}
 use Rattle.tables.specs.Promise.{Meets}
 use Rattle.tables.specs.Run.{Run, core_after}
 use Rattle.tables.specs.CallsFrom.{CallsFrom}

@@ -5,7 +5,7 @@ use Rattle.definitions.specs.Event.{Event}
 use Rattle.definitions.specs.Counts.{Count, counts_after}
 use Rattle.tables.specs.declared.Control.{Control}
 use Rattle.tables.specs.declared.Answered.{Answered}
-use Rattle.tables.specs.Tables.{Tables}
+use Rattle.tables.specs.declared.Tables.{Tables}
 use Rattle.tables.specs.Meaning.{core_of, counts_of}
 
 -- of the call on control c and tables t that gave r and left the tables u

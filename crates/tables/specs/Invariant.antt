@@ -9,7 +9,8 @@ use Rattle.order.specs.Order.{Sound, Ordered}
 use Rattle.order.specs.Owner.{places_of}
 use Rattle.counts.specs.CountTable.{count_columns}
 use Rattle.tables.specs.declared.Control.{Control}
-use Rattle.tables.specs.Tables.{Tables, term_columns, stock_columns, head_at, count_at, ring}
+use Rattle.tables.specs.declared.Tables.{Tables}
+use Rattle.tables.specs.Tables.{term_columns, stock_columns, head_at, count_at, ring}
 use Rattle.tables.specs.Meaning.{kind_at, clients_of, state_of}
 
 -- how long the tables are; the links say their own length

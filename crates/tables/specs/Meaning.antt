@@ -12,7 +12,8 @@ use Rattle.marks.specs.Marks.{marked}
 use Rattle.order.specs.Order.{sentinel, next_of, walked}
 use Rattle.order.specs.Owner.{owner}
 use Rattle.tables.specs.declared.Control.{Control}
-use Rattle.tables.specs.Tables.{Tables, rate_at, burst_at, level_at, pool_at, head_at, count_at, ring}
+use Rattle.tables.specs.declared.Tables.{Tables}
+use Rattle.tables.specs.Tables.{rate_at, burst_at, level_at, pool_at, head_at, count_at, ring}
 
 unfoldable pub kind_at : Control → ℕ → Kind
 kind_at c id = cond (marked c.indifferent id) indifferent (cond (marked c.private id) private absent)

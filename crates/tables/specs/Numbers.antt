@@ -3,7 +3,7 @@ use Rattle.std.specs.Prelude.{ℕ, cond, List}
 use Rattle.definitions.specs.State.{State}
 use Rattle.definitions.specs.Checks.{Check}
 use Rattle.tables.specs.declared.Control.{Control}
-use Rattle.tables.specs.Tables.{Tables}
+use Rattle.tables.specs.declared.Tables.{Tables}
 use Rattle.tables.specs.Meaning.{state_of}
 unfoldable pub use Rattle.definitions.specs.Checks.{first_failed}
 

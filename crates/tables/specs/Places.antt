@@ -7,7 +7,7 @@ use Rattle.definitions.specs.Event.{Event, Open, Join, Change, Leave, Load, Arri
 use Rattle.definitions.specs.History.{Trace, begin, ◌and◌}
 use Rattle.tables.specs.declared.Control.{Control}
 use Rattle.tables.specs.declared.Answered.{Answered}
-use Rattle.tables.specs.Tables.{Tables}
+use Rattle.tables.specs.declared.Tables.{Tables}
 use Rattle.tables.specs.Promise.{Meets}
 use Rattle.tables.specs.Counting.{Counts}
 use Rattle.tables.specs.CallsFrom.{CallsFrom}

@@ -5,7 +5,7 @@ use Rattle.definitions.specs.Event.{Event}
 use Rattle.definitions.specs.Core.{step}
 use Rattle.tables.specs.declared.Control.{Control}
 use Rattle.tables.specs.declared.Answered.{Answered}
-use Rattle.tables.specs.Tables.{Tables}
+use Rattle.tables.specs.declared.Tables.{Tables}
 use Rattle.tables.specs.Meaning.{core_of}
 use Rattle.tables.specs.Invariant.{Valid}
 

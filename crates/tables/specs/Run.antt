@@ -12,7 +12,7 @@ use Rattle.definitions.specs.Fits.{HistoryFits, CoreFits}
 use Rattle.definitions.specs.WrongVersions.{Differs}
 use Rattle.tables.specs.declared.Control.{Control}
 use Rattle.tables.specs.declared.Answered.{Answered}
-use Rattle.tables.specs.Tables.{Tables}
+use Rattle.tables.specs.declared.Tables.{Tables}
 use Rattle.tables.specs.Meaning.{core_of}
 use Rattle.tables.specs.Invariant.{Valid}
 use Rattle.tables.specs.Promise.{Meets}

@@ -12,7 +12,7 @@ use Rattle.definitions.specs.Sameness.{is_tick, kept}
 use Rattle.definitions.specs.Notes.{reason_of, note_of, operator_note, tenant_seen, tenant_note}
 use Rattle.definitions.specs.TenantSheet.{notes_of}
 use Rattle.tables.specs.declared.Control.{Control}
-use Rattle.tables.specs.Tables.{Tables}
+use Rattle.tables.specs.declared.Tables.{Tables}
 use Rattle.tables.specs.Meaning.{core_of}
 use Rattle.tables.specs.Run.{Reached, begun, called, Run, PlaceOf, calls_of}
 

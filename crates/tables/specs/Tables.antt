@@ -4,13 +4,7 @@
 use Rattle.std.specs.Prelude.{ℕ, zero, suc, ◌+◌, ◌*◌, ◌%◌, List, [], ◌∷◌, get_or, set}
 use Rattle.definitions.specs.Sizes.{ids, places}
 
-pub record Tables : Type 0 where
-  pub terms : List ℕ
-  pub stocks : List ℕ
-  pub handles : List ℕ
-  pub lengths : List ℕ
-  pub links : List ℕ
-  pub counts : List ℕ
+pub use Rattle.tables.specs.declared.Tables.{Tables}
 
 abbrev pub tables : List ℕ → List ℕ → List ℕ → List ℕ → List ℕ → List ℕ → Tables
 tables terms stocks handles lengths links counts = record {

@@ -10,7 +10,8 @@ use Rattle.definitions.specs.History.{Trace}
 use Rattle.order.specs.Order.{Sound}
 use Rattle.tables.specs.declared.Control.{Control}
 use Rattle.tables.specs.declared.Answered.{Answered}
-use Rattle.tables.specs.Tables.{Tables, head_at}
+use Rattle.tables.specs.declared.Tables.{Tables}
+use Rattle.tables.specs.Tables.{head_at}
 use Rattle.tables.specs.Meaning.{core_of, counts_of}
 use Rattle.tables.specs.Invariant.{Sized, Valid}
 use Rattle.tables.specs.Promise.{Meets}

@@ -4,7 +4,8 @@ use Rattle.std.specs.Prelude.{ℕ, ◌<◌, ◌≡◌, true, List, set}
 use Rattle.definitions.specs.Sizes.{ids}
 use Rattle.order.specs.Order.{sentinel, next_of, prev_of, All, Absent}
 use Rattle.tables.specs.declared.Control.{Control}
-use Rattle.tables.specs.Tables.{Tables, tables, head_at, count_at, pool_at, ring}
+use Rattle.tables.specs.declared.Tables.{Tables}
+use Rattle.tables.specs.Tables.{tables, head_at, count_at, pool_at, ring}
 use Rattle.tables.specs.Meaning.{packet_at}
 
 -- the places at which packets of an id wait

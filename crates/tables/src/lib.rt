@@ -4,13 +4,16 @@
 ghost use Rattle.std.specs.Prelude.{◌≡◌, [], ◌<◌, ◌^◌};
 ghost use Rattle.definitions.specs.Client.{is_active};
 ghost use Rattle.definitions.specs.Checks.{active_checks};
+ghost use Rattle.definitions.specs.Refusals.{number_in};
 ghost use Rattle.tables.specs.Controls.{with_generator};
-ghost use Rattle.tables.specs.Tables.{Tables};
+ghost use Rattle.tables.specs.declared.Tables.{Tables};
 ghost use Rattle.tables.specs.Meaning.{kind_at};
 ghost use Rattle.tables.specs.Numbers.{refusal};
 
-use definitions::{Answer, IDS, PLACES};
+use counts::COUNTS;
+use definitions::{Answer, IDS, PLACES, Refusal};
 use generator::Generator;
+use order::LINKS;
 
 // What of the core is no table, and goes by value. Its fields stand by falling size, so that no padding between two of them is copied
 // along.
@@ -57,8 +60,30 @@ pub const POOL: u32 = 2 * IDS;
 // The places of the waiting packets.
 pub const STORE: usize = (IDS * PLACES) as usize;
 
-// What every call but open is refused with while the core is unopened.
-pub const UNOPENED: u32 = 19;
+// The tables of the core.
+#[derive(Drop)]
+pub struct Tables {
+    pub terms: [u32; TERMS],
+    pub stocks: [u32; STOCKS],
+    pub handles: [u64; STORE],
+    pub lengths: [u16; STORE],
+    pub links: [u32; LINKS],
+    pub counts: [u64; COUNTS],
+}
+
+impl Tables {
+    // Tables that hold a number throughout.
+    pub fn filled(number: u32) -> Tables {
+        Tables {
+            terms: [number; TERMS],
+            stocks: [number; STOCKS],
+            handles: [number as u64; STORE],
+            lengths: [(number % 65536) as u16; STORE],
+            links: [number; LINKS],
+            counts: [number as u64; COUNTS],
+        }
+    }
+}
 
 pub fn refused(control: Control, number: u32) -> Answered
     ensures { result ≡ record { control = control; answer = Answer.Refused number } }
@@ -116,18 +141,18 @@ pub fn active(control: Control, id: u32) -> bool
     marks::has(control.private, id)
 }
 
-// The number that a call for an active client is refused with, before anything else of it counts: 19, 4, 5.
-pub fn active_number(control: Control, id: u32) -> u32
-    ensures { (t : Tables) → result ≡ refusal control t (λ s. active_checks s id []) }
+// What a call for an active client is refused for, before anything else of it counts: 19, 4, 5.
+pub fn check_active(control: Control, id: u32) -> Result<(), Refusal>
+    ensures { (t : Tables) → number_in result ≡ refusal control t (λ s. active_checks s id []) }
 {
     if !control.opened {
-        return UNOPENED;
+        return Err(Refusal::Unopened);
     }
     if IDS <= id {
-        return 4;
+        return Err(Refusal::Id);
     }
     if !active(control, id) {
-        return 5;
+        return Err(Refusal::Inactive);
     }
-    0
+    Ok(())
 }

@@ -24,7 +24,8 @@ use Rattle.order.proofs.Owner.{places_of_absent}
 use Rattle.tables.specs.declared.Control.{Control}
 use Rattle.tables.specs.declared.Answered.{Answered}
 use Rattle.tables.specs.Controls.{with_waiting}
-use Rattle.tables.specs.Tables.{Tables, level_at, head_at, count_at}
+use Rattle.tables.specs.declared.Tables.{Tables}
+use Rattle.tables.specs.Tables.{level_at, head_at, count_at}
 use Rattle.tables.specs.Meaning.{kind_at, client_at, clients_of, stock_at, stocks_of, side_of, state_of}
 use Rattle.tables.specs.Invariant.{Shape, SoundCore, Valid}
 use Rattle.tables.specs.Numbers.{refusal}

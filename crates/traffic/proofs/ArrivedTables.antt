@@ -26,7 +26,8 @@ use Rattle.order.proofs.Owner.{map-owner-append, places_of_push_own, places_of_p
 use Rattle.order.proofs.OrderWalk.{ordered-walked}
 use Rattle.tables.specs.declared.Control.{Control}
 use Rattle.tables.specs.Controls.{with_waiting}
-use Rattle.tables.specs.Tables.{Tables, tables, rate_column, burst_column, level_column, term_columns}
+use Rattle.tables.specs.declared.Tables.{Tables}
+use Rattle.tables.specs.Tables.{tables, rate_column, burst_column, level_column, term_columns}
 use Rattle.tables.specs.Tables.{pool_column, head_column, count_column, stock_columns, field, written, level_at, head_at, count_at, ring}
 use Rattle.tables.specs.Meaning.{kind_at, packet_at, queue_at, client_at, clients_of, stock_at, stocks_of, order_of, side_of, state_of}
 use Rattle.tables.specs.Invariant.{Shape}

@@ -13,7 +13,8 @@ use Rattle.definitions.specs.Checks.{active_checks, load_checks}
 use Rattle.definitions.proofs.Laws.Checked.{Passed}
 use Rattle.tables.specs.declared.Control.{Control}
 use Rattle.tables.specs.declared.Answered.{Answered}
-use Rattle.tables.specs.Tables.{Tables, pool_at}
+use Rattle.tables.specs.declared.Tables.{Tables}
+use Rattle.tables.specs.Tables.{pool_at}
 use Rattle.tables.specs.Meaning.{queue_at, client_at, clients_of, stock_at, stocks_of, order_of, side_of, state_of}
 use Rattle.tables.specs.Invariant.{Shape, SoundCore, Valid}
 use Rattle.tables.specs.Numbers.{refusal}

@@ -10,10 +10,9 @@ ghost use Rattle.tables.specs.Invariant.{Valid};
 ghost use Rattle.tables.specs.Numbers.{refusal};
 ghost use Rattle.tables.specs.Places.{Promised};
 
-use counts::{ACCEPTED, COUNTS};
+use counts::ACCEPTED;
 use definitions::{LONGEST, PLACES, POOL_LIMIT, Packet, SHARES, SHORTEST};
-use order::LINKS;
-use tables::{Answered, COUNT, Control, HEAD, LEVEL, POOL, STOCKS, STORE, TERMS};
+use tables::{Answered, COUNT, Control, HEAD, LEVEL, POOL, STOCKS, STORE, TERMS, Tables};
 
 // The number that a load is refused with: 19, 4, 5, 11, 12.
 fn load_number(control: Control, stocks: &[u32; STOCKS], id: u32, dummies: u32) -> u32
@@ -34,30 +33,16 @@ fn load_number(control: Control, stocks: &[u32; STOCKS], id: u32, dummies: u32) 
 }
 
 // Adds dummies to a private client's pool (paper 01, "Load"). Refused: 19, 4, 5, 11, 12.
-pub fn load(
-    control: Control,
-    terms: &[u32; TERMS],
-    stocks: &mut [u32; STOCKS],
-    handles: &[u64; STORE],
-    lengths: &[u16; STORE],
-    links: &[u32; LINKS],
-    counts: &[u64; COUNTS],
-    id: u32,
-    dummies: u32,
-) -> Answered
-    requires { Valid control (tables terms.now stocks.old handles.now lengths.now links.now counts.now) }
-    ensures { Promised (Load id dummies) control
-        (tables terms.now stocks.old handles.now lengths.now links.now
-        counts.now) result
-        (tables terms.now stocks.new handles.now lengths.now links.now
-        counts.now) }
+pub fn load(control: Control, tables: &mut Tables, id: u32, dummies: u32) -> Answered
+    requires { Valid control tables.old }
+    ensures { Promised (Load id dummies) control tables.old result tables.new }
 {
-    let number = load_number(control, stocks, id, dummies);
+    let number = load_number(control, &tables.stocks, id, dummies);
     if number != 0 {
         return tables::refused(control, number);
     }
     let at = (POOL + id) as usize;
-    stocks[at] = stocks[at] + dummies;
+    tables.stocks[at] = tables.stocks[at] + dummies;
     tables::accepted(control)
 }
 
@@ -140,36 +125,29 @@ fn charge(terms: &mut [u32; TERMS], id: u32)
 // It costs the same however many packets wait. A refusal with 14 or 15 changes its own count and nothing else.
 pub fn arrive(
     control: Control,
-    terms: &mut [u32; TERMS],
-    stocks: &mut [u32; STOCKS],
-    handles: &mut [u64; STORE],
-    lengths: &mut [u16; STORE],
-    links: &mut [u32; LINKS],
-    counts: &mut [u64; COUNTS],
+    tables: &mut Tables,
     id: u32,
     packet: Packet,
 ) -> Answered
-    requires { Valid control (tables terms.old stocks.old handles.old lengths.old links.old counts.old) }
+    requires { Valid control tables.old }
     ensures { Promised (Arrive id packet) control
-        (tables terms.old stocks.old handles.old lengths.old links.old
-        counts.old) result
-        (tables terms.new stocks.new handles.new lengths.new links.new
-        counts.new) }
+        tables.old result
+        tables.new }
 {
-    let number = arrive_number(control, terms, stocks, id, packet);
+    let number = arrive_number(control, &tables.terms, &tables.stocks, id, packet);
     if number != 0 {
-        counts::drop(counts, id, number);
+        counts::drop(&mut tables.counts, id, number);
         return tables::refused(control, number);
     }
-    let place = free_place(stocks, id);
-    keep(handles, lengths, place, packet);
-    count_up(stocks, id);
+    let place = free_place(&tables.stocks, id);
+    keep(&mut tables.handles, &mut tables.lengths, place, packet);
+    count_up(&mut tables.stocks, id);
     if marks::has(control.indifferent, id) {
-        charge(terms, id);
-        order::push(links, place);
+        charge(&mut tables.terms, id);
+        order::push(&mut tables.links, place);
     }
     let mut after = control;
     after.waiting = marks::mark(control.waiting, id);
-    counts::raise(counts, id, ACCEPTED, 1);
+    counts::raise(&mut tables.counts, id, ACCEPTED, 1);
     tables::accepted(after)
 }

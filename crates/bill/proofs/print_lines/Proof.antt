@@ -8,7 +8,7 @@ use lib.ListN.{length, take}
 use Rattle.definitions.specs.Sizes.{ids}
 use Rattle.grammar.specs.CountLines.{lines_below}
 use Rattle.printer.specs.Printed.{line_room}
-use Rattle.tables.specs.Tables.{Tables}
+use Rattle.tables.specs.declared.Tables.{Tables}
 use Rattle.tables.specs.Meaning.{whole_of}
 use Rattle.bill.specs.Billed.{bill_room}
 use Rattle.bill.proofs.Billing.{lines_more}
