@@ -2,7 +2,7 @@
 -- is the call's, and where none does, the id is active and the call's other checks decide. By cases on the three tests.
 -- Assumes nothing.
 use Prim.Native.Nat.{ℕ, ◌<◌}
-use mathlib.Core.Path.{◌≡◌, refl, sym, ◌∙◌}
+use mathlib.Core.Path.{◌≡◌, refl, sym, ap, ◌∙◌}
 use mathlib.Core.Logic.{◌≢◌}
 use mathlib.Core.Bool.{Bool, true, false, cond}
 use mathlib.Core.List.{List, []}
@@ -13,11 +13,40 @@ use Rattle.definitions.specs.Sizes.{ids}
 use Rattle.definitions.specs.Client.{is_active}
 use Rattle.definitions.specs.State.{State}
 use Rattle.definitions.specs.Checks.{Check, active_checks}
+use Rattle.definitions.specs.declared.Refusal.{Refusal}
+use Rattle.definitions.specs.declared.Refusal.TheVariants.{Threshold, Discipline, Seed, Id, Inactive, Active, Kind, Rate, Burst, Rates, Indifferent, Pool, Length, Full, Drained, Unopened, Unfair}
+use Rattle.definitions.specs.Refusals.{number_of, number_in}
+use Rattle.std.specs.Prelude.{Result, Err}
 use Rattle.tables.specs.declared.Control.{Control}
 use Rattle.tables.specs.declared.Tables.{Tables}
 use Rattle.tables.specs.Tables.{tables}
 use Rattle.tables.specs.Meaning.{state_of}
 use Rattle.tables.specs.Numbers.{first_failed, refusal}
+
+-- no refusal has the number 0
+pub refused_number : (r : Refusal) → number_of r ≢ 0
+refused_number Threshold e = absurd (omega arith)
+refused_number Discipline e = absurd (omega arith)
+refused_number Seed e = absurd (omega arith)
+refused_number Id e = absurd (omega arith)
+refused_number Inactive e = absurd (omega arith)
+refused_number Active e = absurd (omega arith)
+refused_number Kind e = absurd (omega arith)
+refused_number Rate e = absurd (omega arith)
+refused_number Burst e = absurd (omega arith)
+refused_number Rates e = absurd (omega arith)
+refused_number Indifferent e = absurd (omega arith)
+refused_number Pool e = absurd (omega arith)
+refused_number Length e = absurd (omega arith)
+refused_number Full e = absurd (omega arith)
+refused_number Drained e = absurd (omega arith)
+refused_number Unopened e = absurd (omega arith)
+refused_number Unfair e = absurd (omega arith)
+
+-- where some checks found a refusal, its number is that of the first that failed, and not 0
+pub refused_as : {A : Type 0} {found : Result A Refusal} {r : Refusal} {n m : ℕ} → found ≡ Err r → n ≡ number_of r → number_in found ≡ m
+    → (n ≡ m) × (n ≢ 0)
+refused_as {found = found} {r = r} e is first = (is ∙ sym (ap number_in e) ∙ first, λ z. refused_number r (sym is ∙ z))
 
 -- the number by the three tests, and by what is asked behind them
 abbrev by_tests : Bool → Bool → Bool → ℕ → ℕ

@@ -1,3 +1,5 @@
+pub mod LoadChecks
 pub mod LoadPromise
 pub mod ArrivedTables
+pub mod ArriveChecks
 pub mod ArrivePromise

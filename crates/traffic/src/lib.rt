@@ -1,83 +1,82 @@
 // What comes in for a client: dummies for a private pool, and packets.
-#![tactic(auto)]
+#![tactic(auto, unfolding(definitions::specs::Sizes::ids, definitions::specs::Sizes::places, definitions::specs::Sizes::shares, definitions::specs::Sizes::longest, tables::specs::Tables::field))]
 
 ghost use Rattle.std.specs.Prelude.{◌≡◌, List, set, ℕ, ◌+◌, ◌-◌, ◌*◌, ◌%◌, ◌≤◌, ◌<◌};
 ghost use Rattle.definitions.specs.Event.{Load, Arrive};
 ghost use Rattle.definitions.specs.Sizes.{ids, places, shares, longest};
 ghost use Rattle.definitions.specs.Checks.{load_checks, arrive_checks};
+ghost use Rattle.definitions.specs.Refusals.{number_in};
 ghost use Rattle.tables.specs.Tables.{tables, level_column, count_column, written, level_at, head_at, count_at};
 ghost use Rattle.tables.specs.Invariant.{Valid};
 ghost use Rattle.tables.specs.Numbers.{refusal};
 ghost use Rattle.tables.specs.Places.{Promised};
 
 use counts::ACCEPTED;
-use definitions::{LONGEST, PLACES, POOL_LIMIT, Packet, SHARES, SHORTEST};
+use definitions::{LONGEST, PLACES, POOL_LIMIT, Packet, Refusal, SHARES, SHORTEST};
 use tables::{Answered, COUNT, Control, HEAD, LEVEL, POOL, STOCKS, STORE, TERMS, Tables};
 
-// The number that a load is refused with: 19, 4, 5, 11, 12.
-fn load_number(control: Control, stocks: &[u32; STOCKS], id: u32, dummies: u32) -> u32
+// What a load is refused for: 19, 4, 5, 11, 12.
+fn check_load(
+    control: Control,
+    stocks: &[u32; STOCKS],
+    id: u32,
+    dummies: u32,
+) -> Result<(), Refusal>
     ensures { (terms handles lengths links counts : List ℕ)
-        → result ≡ refusal control (tables terms stocks.now handles lengths links counts) (λ s. load_checks s id dummies) }
+        → number_in result ≡ refusal control (tables terms stocks.now handles lengths links counts) (λ s. load_checks s id dummies) }
 {
-    let number = tables::active_number(control, id);
-    if number != 0 {
-        return number;
-    }
+    tables::check_active(control, id)?;
     if marks::has(control.indifferent, id) {
-        return 11;
+        return Err(Refusal::Indifferent);
     }
     if POOL_LIMIT < tables::wide(stocks[(POOL + id) as usize]) + tables::wide(dummies) {
-        return 12;
+        return Err(Refusal::Pool);
     }
-    0
+    Ok(())
 }
 
 // Adds dummies to a private client's pool (paper 01, "Load"). Refused: 19, 4, 5, 11, 12.
 pub fn load(control: Control, tables: &mut Tables, id: u32, dummies: u32) -> Answered
     requires { Valid control tables.old }
-    ensures { Promised (Load id dummies) control tables.old result tables.new }
+    ensures promised { Promised (Load id dummies) control tables.old result tables.new }
+    ensures others { tables.new ≡ record tables.old { stocks = tables.new.stocks } }
 {
-    let number = load_number(control, &tables.stocks, id, dummies);
-    if number != 0 {
-        return tables::refused(control, number);
+    if let Err(refusal) = check_load(control, &tables.stocks, id, dummies) {
+        return tables::refused(control, refusal.number());
     }
-    let at = (POOL + id) as usize;
-    tables.stocks[at] = tables.stocks[at] + dummies;
+    tables.stocks[(POOL + id) as usize] += dummies;
     tables::accepted(control)
 }
 
-// The number that a packet is refused with: 19, 4, 5, 13, 14, 15.
-fn arrive_number(
+// What a packet is refused for: 19, 4, 5, 13, 14, 15.
+fn check_arrive(
     control: Control,
     terms: &[u32; TERMS],
     stocks: &[u32; STOCKS],
     id: u32,
     packet: Packet,
-) -> u32
+) -> Result<(), Refusal>
     ensures { (handles lengths links counts : List ℕ)
-        → result ≡ refusal control (tables terms.now stocks.now handles lengths links counts)
+        → number_in result ≡ refusal control (tables terms.now stocks.now handles lengths links counts)
         (λ s. arrive_checks s id packet) }
 {
-    let number = tables::active_number(control, id);
-    if number != 0 {
-        return number;
-    }
+    tables::check_active(control, id)?;
     if packet.length < SHORTEST {
-        return 13;
+        return Err(Refusal::Length);
     }
     if LONGEST < packet.length {
-        return 13;
+        return Err(Refusal::Length);
     }
     if PLACES <= stocks[(COUNT + id) as usize] {
-        return 14;
+        return Err(Refusal::Full);
     }
     if !marks::has(control.indifferent, id) {
-        return 0;
+        return Ok(());
     }
     if terms[(LEVEL + id) as usize] < SHARES {
-        return 15;
+        return Err(Refusal::Drained);
     }
-    0
+    Ok(())
 }
 
 // The place behind an id's last packet.
@@ -107,8 +106,7 @@ fn count_up(stocks: &mut [u32; STOCKS], id: u32)
     ensures { stocks.new
         ≡ written stocks.old count_column id (count_at stocks.old id + 1) }
 {
-    let at = (COUNT + id) as usize;
-    stocks[at] = stocks[at] + 1;
+    stocks[(COUNT + id) as usize] += 1;
 }
 
 // Takes what a packet costs from an id's bucket.
@@ -117,25 +115,19 @@ fn charge(terms: &mut [u32; TERMS], id: u32)
     ensures { terms.new
         ≡ written terms.old level_column id (level_at terms.old id - shares) }
 {
-    let at = (LEVEL + id) as usize;
-    terms[at] = terms[at] - SHARES;
+    terms[(LEVEL + id) as usize] -= SHARES;
 }
 
 // Puts a packet last in its client's queue (paper 01, "Arrive"). Refused: 19, 4, 5, 13, 14, 15.
 // It costs the same however many packets wait. A refusal with 14 or 15 changes its own count and nothing else.
-pub fn arrive(
-    control: Control,
-    tables: &mut Tables,
-    id: u32,
-    packet: Packet,
-) -> Answered
+pub fn arrive(control: Control, tables: &mut Tables, id: u32, packet: Packet) -> Answered
     requires { Valid control tables.old }
     ensures { Promised (Arrive id packet) control
         tables.old result
         tables.new }
 {
-    let number = arrive_number(control, &tables.terms, &tables.stocks, id, packet);
-    if number != 0 {
+    if let Err(refusal) = check_arrive(control, &tables.terms, &tables.stocks, id, packet) {
+        let number = refusal.number();
         counts::drop(&mut tables.counts, id, number);
         return tables::refused(control, number);
     }
