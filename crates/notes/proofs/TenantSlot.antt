@@ -5,14 +5,13 @@ use mathlib.Core.Logic.{◌≢◌}
 use mathlib.Core.Bool.{Bool, true, false, cond}
 use borrow.Author.Tests.{eq-eqb, ne_eqb, lt-ltb, le-ltb}
 use Rattle.definitions.specs.declared.Answer.{Answer}
-use Rattle.definitions.specs.declared.Reason.{Reason}
 use Rattle.definitions.specs.declared.Note.{Note}
 use Rattle.definitions.specs.declared.Note.TheVariants.{Refusal, ToIndifferent, ToAnother}
 use Rattle.definitions.specs.Sizes.{ids}
 use Rattle.definitions.specs.Client.{Kind, absent, indifferent, private}
 use Rattle.definitions.specs.State.{unopened, running}
 use Rattle.definitions.specs.Checks.{first_failed}
-use Rattle.definitions.specs.Notes.{note_of, holder, went_to, seen_by, tenant_checks, unless_refused, tenant_seen}
+use Rattle.definitions.specs.Notes.{Reason, note_of, holder, went_to, seen_by, tenant_checks, unless_refused, tenant_seen}
 use Rattle.marks.specs.Marks.{marked}
 use Rattle.tables.specs.declared.Control.{Control}
 use Rattle.tables.specs.Tables.{Tables}

@@ -9,31 +9,31 @@ ghost use Rattle.tables.specs.Meaning.{core_of};
 ghost use Rattle.tables.specs.Numbers.{refusal};
 ghost use Rattle.notes.specs.ReasonLeft.{reason_left};
 
-use definitions::{Answer, IDS, Note, Outcome, Reason};
+use definitions::{Answer, Drawing, IDS, Note, Outcome};
 use tables::Control;
 
 // What a sheet of an indifferent client is refused with.
 const INDIFFERENT: u32 = 11;
 
 // By which draw a slot went, if there was one: from the control after it and the sum of the rates in the draw, 0 where there was none.
-pub fn reason(control: Control, sum: u64) -> Reason
+pub fn reason(control: Control, sum: u64) -> Option<Drawing>
     ensures { (t : Tables) → result ≡ reason_left sum (core_of control t) }
 {
     if !control.opened {
-        return Reason::Undrawn;
+        return None;
     }
     if sum == 0 {
-        return Reason::Undrawn;
+        return None;
     }
     let generator = control.generator;
-    Reason::Drawn {
+    Some(Drawing {
         target: draw::remainder(generator.value, sum),
         sum,
-    }
+    })
 }
 
 // What the operator is told where a tick gave an answer for a reason.
-pub fn operator(answer: Answer, reason: Reason) -> Note
+pub fn operator(answer: Answer, reason: Option<Drawing>) -> Note
     ensures { result ≡ note_of answer reason }
 {
     match answer {
@@ -77,7 +77,7 @@ fn tenant_number(control: Control, id: u32) -> u32
 }
 
 // What a tenant is told where a tick gave an answer for a reason; the control is the one before the tick. Refused: 19, 4, 5, 11.
-pub fn tenant(id: u32, control: Control, answer: Answer, reason: Reason) -> Note
+pub fn tenant(id: u32, control: Control, answer: Answer, reason: Option<Drawing>) -> Note
     ensures { (t : Tables) → result ≡ tenant_seen id (core_of control t) answer reason }
 {
     let number = tenant_number(control, id);
