@@ -105,10 +105,3 @@ pub struct CountSheet {
     pub emptied: u64,
     pub dummies: u64,
 }
-
-// What billing gets for an id: its counts, or the number of the first check that failed.
-#[derive(Clone, Copy)]
-pub enum Sheet {
-    Counts { counts: CountSheet },
-    Unavailable { number: u32 },
-}
