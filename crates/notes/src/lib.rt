@@ -2,14 +2,15 @@
 // it went to an indifferent client or to another private one. A tick gives what these functions take.
 #![tactic(auto)]
 
-ghost use Rattle.std.specs.Prelude.{◌≡◌};
+ghost use Rattle.std.specs.Prelude.{◌≡◌, unwrap_or};
+ghost use Rattle.definitions.specs.Sizes.{ids};
 ghost use Rattle.definitions.specs.Notes.{note_of, holder, tenant_checks, tenant_seen};
 ghost use Rattle.tables.specs.Tables.{Tables};
 ghost use Rattle.tables.specs.Meaning.{core_of};
 ghost use Rattle.tables.specs.Numbers.{refusal};
 ghost use Rattle.notes.specs.ReasonLeft.{reason_left};
 
-use definitions::{Answer, Drawing, IDS, Note, Outcome};
+use definitions::{Answer, Drawing, Note, Outcome};
 use tables::Control;
 
 // What a sheet of an indifferent client is refused with.
@@ -33,6 +34,7 @@ pub fn reason(control: Control, sum: u64) -> Option<Drawing>
 }
 
 // What the operator is told where a tick gave an answer for a reason.
+#[tactic(auto, unfolding(definitions::specs::Notes::note_of, definitions::specs::Answers::number))]
 pub fn operator(answer: Answer, reason: Option<Drawing>) -> Note
     ensures { result ≡ note_of answer reason }
 {
@@ -43,22 +45,17 @@ pub fn operator(answer: Answer, reason: Option<Drawing>) -> Note
     }
 }
 
-// Whose slot it was; of nobody's, and of what is no slot, a number that no client has.
-fn holder_of(answer: Answer) -> u32
-    ensures { result ≡ holder answer }
+// Whose slot it was, if it was somebody's. The definition has a number for nobody, which no client has.
+#[tactic(auto, unfolding(definitions::specs::Notes::holder))]
+fn holder_of(answer: Answer) -> Option<u32>
+    ensures { unwrap_or result ids ≡ holder answer }
 {
     let Answer::Slot { outcome } = answer else {
-        return IDS;
+        return None;
     };
     match outcome {
-        Outcome::Real {
-            id,
-            packet: _,
-            padding: _,
-        } => id,
-        Outcome::Dummy { id } => id,
-        Outcome::Idle { id } => id,
-        Outcome::None => IDS,
+        Outcome::Real { id, .. } | Outcome::Dummy { id } | Outcome::Idle { id } => Some(id),
+        Outcome::None => None,
     }
 }
 
@@ -85,11 +82,10 @@ pub fn tenant(id: u32, control: Control, answer: Answer, reason: Option<Drawing>
         return Note::Refusal { number };
     }
     let whole = operator(answer, reason);
-    let holder = holder_of(answer);
-    if holder == id {
+    let Some(holder) = holder_of(answer) else {
         return whole;
-    }
-    if IDS <= holder {
+    };
+    if holder == id {
         return whole;
     }
     if marks::has(control.indifferent, holder) {
