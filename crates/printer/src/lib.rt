@@ -261,10 +261,10 @@ fn put_undrawn(out: &mut [u8], at: usize, outcome: Outcome) -> usize
     requires { at + reason_room ≤ length out.old }
     ensures { Appended (reason_text outcome None) out.old at out.new result }
 {
-    if let Outcome::None = outcome {
-        return put(out, at, b".\n");
+    match outcome {
+        Outcome::None => put(out, at, b".\n"),
+        _ => put(out, at, b", first come first served.\n"),
     }
-    put(out, at, b", first come first served.\n")
 }
 
 // Writes the words of a draw.

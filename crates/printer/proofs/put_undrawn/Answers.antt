@@ -19,5 +19,5 @@ pub returns-in-None : goal.returns-in-None
 unfolding reason_text
 returns-in-None c = rw c.in-None.is c.put.ensures
 
-pub returns : goal.returns
-returns c = rw (somebody c.args.outcome c.in_default.not-None) c.put-2.ensures
+pub returns-in_default : goal.returns-in_default
+returns-in_default c = rw (somebody c.args.outcome c.in_default.not-None) c.put-in_default.ensures
