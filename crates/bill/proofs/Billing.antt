@@ -7,8 +7,7 @@ use native.Mathlib.Omega.{arith}
 use lib.ListN.{length, take}
 use borrow.Author.Tests.{lt-ltb, le-ltb}
 use Rattle.definitions.specs.Sizes.{ids}
-use Rattle.definitions.specs.declared.Sheet.{Sheet}
-use Rattle.definitions.specs.Counts.{Whole, count_sheet}
+use Rattle.definitions.specs.Counts.{Whole, Sheet, count_sheet}
 use Rattle.grammar.specs.Bytes.{text_limit}
 use Rattle.grammar.specs.CountLines.{sheet_line, line_of, lines_below, counts_printed}
 use Rattle.printer.specs.Printed.{line_room, LineWritten}

@@ -11,7 +11,7 @@ ghost use Rattle.tables.specs.Meaning.{whole_of};
 ghost use Rattle.bill.specs.Billed.{bill_room, AllLines, Billed};
 
 use counts::COUNTS;
-use definitions::{IDS, Sheet};
+use definitions::IDS;
 use grammar::TEXT_LIMIT;
 use order::LINKS;
 use printer::LINE_ROOM;
@@ -25,10 +25,9 @@ fn print_line(out: &mut [u8], at: usize, control: Control, counts: &[u64; COUNTS
     ensures { ((t : Tables) → t.counts ≡ counts.now
         → LineWritten (line_of (whole_of control t) id) out.old at out.new result) × (result ≤ at + line_room) }
 {
-    let sheet = sheets::sheet(control, counts, id);
-    match sheet {
-        Sheet::Counts { counts: six } => printer::print_counts(out, at, id, six),
-        Sheet::Unavailable { number: _ } => at,
+    match sheets::sheet(control, counts, id) {
+        Ok(six) => printer::print_counts(out, at, id, six),
+        Err(_) => at,
     }
 }
 

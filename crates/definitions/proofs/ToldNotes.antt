@@ -9,7 +9,6 @@ use borrow.Author.Tests.{eq-eqb, ne_eqb, lt-ltb}
 use Rattle.definitions.specs.declared.Outcome.{Outcome}
 use Rattle.definitions.specs.declared.Answer.{Answer}
 use Rattle.definitions.specs.declared.Answer.TheVariants.{Slot}
-use Rattle.definitions.specs.declared.Reason.{Reason}
 use Rattle.definitions.specs.declared.Note.TheVariants.{Told}
 use Rattle.definitions.specs.Sizes.{ids, first_come}
 use Rattle.definitions.specs.Draw.{draw}
@@ -21,7 +20,7 @@ use Rattle.definitions.specs.Event.{Event, Open, Join, Change, Leave, Load, Arri
 use Rattle.definitions.specs.Core.{step}
 use Rattle.definitions.specs.Sameness.{is_tick}
 use Rattle.definitions.specs.Limits.{StateLimits}
-use Rattle.definitions.specs.Notes.{reason_of, note_of, operator_note, holder, went_to, seen_by, tenant_checks, tenant_seen, tenant_note}
+use Rattle.definitions.specs.Notes.{Reason, reason_of, note_of, operator_note, holder, went_to, seen_by, tenant_checks, tenant_seen, tenant_note}
 use Rattle.definitions.specs.TenantSheet.{OperatorTold, TenantTold, NotesTold}
 use Rattle.definitions.proofs.Laws.Tests.{true-false}
 use Rattle.definitions.proofs.Laws.Rules.{rule-cases, turn-rule, sent-holder, sent_somebody}

@@ -1,10 +1,9 @@
 -- Count sheets by example (paper 02, S-7): which entries the calls of a history make, why the sheet of a client that is indifferent is
 -- compared by what it has gained, and that each count begins again at zero.
-use Rattle.std.specs.Prelude.{ℕ, ◌+◌, ◌≡◌, true, List, [], ◌∷◌}
+use Rattle.std.specs.Prelude.{ℕ, ◌+◌, ◌≡◌, true, List, [], ◌∷◌, Ok, Err}
 use Rattle.definitions.specs.declared.Packet.{Packet}
 use Rattle.definitions.specs.declared.Outcome.TheVariants.{Real, Dummy}
 use Rattle.definitions.specs.declared.Answer.TheVariants.{Accepted, Refused, Slot}
-use Rattle.definitions.specs.declared.Sheet.TheVariants.{Counts, Unavailable}
 use Rattle.definitions.specs.Event.{Open, Join, Change, Leave, Load, Arrive, Tick}
 use Rattle.definitions.specs.Sizes.{ids, indifferent_kind, private_kind}
 use Rattle.definitions.specs.State.{Core, unopened}
@@ -67,10 +66,10 @@ pub record Sheets : Type 0 where
   pub refused : listed (counts_behind (emptying then Join 2 private_kind 1 0) 2) ≡ 3 ∷ 1 ∷ 0 ∷ 0 ∷ 2 ∷ 1 ∷ []
   -- "An id not active gives 5", 19 and 4 before it
   pub given : count_sheet (after scheduler emptying) (counts_behind emptying) 2
-      ≡ Counts (record { accepted = 3; sent = 1; full = 0; drained = 0; emptied = 2; dummies = 1 })
-  pub inactive : count_sheet (after scheduler emptying) (counts_behind emptying) 3 ≡ Unavailable 5
-  pub unknown : count_sheet (after scheduler emptying) (counts_behind emptying) ids ≡ Unavailable 4
-  pub shut : count_sheet unopened (counts_behind start) ids ≡ Unavailable 19
+      ≡ Ok (record { accepted = 3; sent = 1; full = 0; drained = 0; emptied = 2; dummies = 1 })
+  pub inactive : count_sheet (after scheduler emptying) (counts_behind emptying) 3 ≡ Err 5
+  pub unknown : count_sheet (after scheduler emptying) (counts_behind emptying) ids ≡ Err 4
+  pub shut : count_sheet unopened (counts_behind start) ids ≡ Err 19
 
 -- every count of every client at its highest: no calls need have led there
 abbrev pub highest : ℕ → Tally

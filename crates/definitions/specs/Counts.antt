@@ -1,14 +1,12 @@
 -- The count sheet of a client (paper 02, S-7): "since the join: accepted, sent, refused 14, refused 15, emptied out, dummies sent".
 -- The counts stand beside the core: no call asks for them, so that no answer goes by them. What a call enters in a client's sheet goes
 -- by the call, by what it got and, where a change of type empties a queue, by how many packets waited.
-use Rattle.std.specs.Prelude.{ℕ, zero, suc, ◌+◌, ◌-◌, ◌%◌, Bool, cond, not, ◌&&◌, [], eqb, length}
+use Rattle.std.specs.Prelude.{ℕ, zero, suc, ◌+◌, ◌-◌, ◌%◌, Bool, cond, not, ◌&&◌, [], eqb, length, Result, Ok, Err}
 use Rattle.definitions.specs.declared.Outcome.{Outcome}
 use Rattle.definitions.specs.declared.Outcome.TheVariants.{Real, Dummy, Idle, None}
 use Rattle.definitions.specs.declared.Answer.{Answer}
 use Rattle.definitions.specs.declared.Answer.TheVariants.{Accepted, Refused, Slot}
 use Rattle.definitions.specs.declared.CountSheet.{CountSheet}
-use Rattle.definitions.specs.declared.Sheet.{Sheet}
-use Rattle.definitions.specs.declared.Sheet.TheVariants.{Counts, Unavailable}
 use Rattle.definitions.specs.Event.{Event, Open, Join, Change, Leave, Load, Arrive, Tick}
 use Rattle.definitions.specs.Sizes.{indifferent_kind, count_span}
 use Rattle.definitions.specs.Client.{is_indifferent}
@@ -144,13 +142,17 @@ sheet_of tally = record {
   dummies = tally count_dummies;
 }
 
+-- its counts, or the number of the first check that failed
+abbrev pub Sheet : Type 0
+Sheet = Result CountSheet ℕ
+
 abbrev pub unless_unavailable : ℕ → Tally → Sheet
-unless_unavailable zero tally = Counts (sheet_of tally)
-unless_unavailable (suc n) tally = Unavailable (suc n)
+unless_unavailable zero tally = Ok (sheet_of tally)
+unless_unavailable (suc n) tally = Err (suc n)
 
 -- "An id not active gives 5": 19 and 4 come before it, as for every call with an id
 unfoldable pub count_sheet : Core → (ℕ → Tally) → ℕ → Sheet
-count_sheet unopened counts id = Unavailable 19
+count_sheet unopened counts id = Err 19
 count_sheet (running s) counts id = unless_unavailable (first_failed (active_checks s id [])) (counts id)
 
 -- ---- All that a call may change: the core, and the counts beside it.

@@ -1,11 +1,10 @@
 -- The reason for each slot (paper 02, S-5): what the operator's sheet and a private tenant's tell of a tick. The words in which they
 -- tell it stand in crates/grammar, Sentences.
-use Rattle.std.specs.Prelude.{ℕ, zero, suc, cond, not, List, [], ◌∷◌, eqb}
-use Rattle.definitions.specs.declared.Outcome.TheVariants.{Real, Dummy, Idle, None}
+use Rattle.std.specs.Prelude.{ℕ, zero, suc, cond, not, List, [], ◌∷◌, eqb, Option, Some, None}
+use Rattle.definitions.specs.declared.Outcome.TheVariants.{Real, Dummy, Idle, None as Nobody}
 use Rattle.definitions.specs.declared.Answer.{Answer}
 use Rattle.definitions.specs.declared.Answer.TheVariants.{Accepted, Refused, Slot}
-use Rattle.definitions.specs.declared.Reason.{Reason}
-use Rattle.definitions.specs.declared.Reason.TheVariants.{Undrawn, Drawn}
+use Rattle.definitions.specs.declared.Drawing.{Drawing}
 use Rattle.definitions.specs.declared.Note.{Note}
 use Rattle.definitions.specs.declared.Note.TheVariants.{Refusal, Told, ToIndifferent, ToAnother}
 use Rattle.definitions.specs.Sizes.{ids}
@@ -18,10 +17,17 @@ use Rattle.definitions.specs.Event.{Tick}
 use Rattle.definitions.specs.Core.{step}
 use Rattle.definitions.specs.History.{draws_of}
 
--- "if there was a draw, target and rate sum"; a turn has no draw or one
+-- why a slot is whose it is: "if there was a draw, target and rate sum"
+abbrev pub Reason : Type 0
+Reason = Option Drawing
+
+abbrev pub drawn_at : ℕ → ℕ → Reason
+drawn_at target sum = Some (record { target = target; sum = sum })
+
+-- a turn has no draw or one
 unfoldable pub reason_of : List Sample → Reason
-reason_of [] = Undrawn
-reason_of (s ∷ more) = Drawn s.target s.sum
+reason_of [] = None
+reason_of (s ∷ more) = drawn_at s.target s.sum
 
 -- "the outcome, its fields and, if there was a draw, target and rate sum"; of what is no slot, its number
 unfoldable pub note_of : Answer → Reason → Note
@@ -40,7 +46,7 @@ holder (Refused n) = ids
 holder (Slot (Real id p padding)) = id
 holder (Slot (Dummy id)) = id
 holder (Slot (Idle id)) = id
-holder (Slot None) = ids
+holder (Slot Nobody) = ids
 
 -- "or that the slot went to an indifferent client or to another private one"
 abbrev pub went_to : Kind → Note → Note

@@ -1,10 +1,9 @@
 -- "Nothing that other private tenants send or load alters a line of it" (paper 02, S-5): the sheet of a private tenant over whole
 -- histories. And what the notes of a slot are worth: which rule each of them stands for.
-use Rattle.std.specs.Prelude.{ℕ, ◌<◌, ◌≡◌, ◌≢◌, cond, List, [], ◌∷◌}
+use Rattle.std.specs.Prelude.{ℕ, ◌<◌, ◌≡◌, ◌≢◌, cond, List, [], ◌∷◌, None}
 use Rattle.definitions.specs.declared.Note.{Note}
 use Rattle.definitions.specs.declared.Note.TheVariants.{Told, ToIndifferent, ToAnother}
-use Rattle.definitions.specs.declared.Reason.TheVariants.{Undrawn, Drawn}
-use Rattle.definitions.specs.declared.Outcome.TheVariants.{None}
+use Rattle.definitions.specs.declared.Outcome.TheVariants.{None as Nobody}
 use Rattle.definitions.specs.Sizes.{ids, first_come}
 use Rattle.definitions.specs.Draw.{sum_below, draw}
 use Rattle.definitions.specs.Client.{private}
@@ -13,7 +12,7 @@ use Rattle.definitions.specs.Tick.{rule1, rule2, rule3, rule_of, contender_rate,
 use Rattle.definitions.specs.History.{History, start, ◌then◌, Place, calls, scheduler, after, trace_of}
 use Rattle.definitions.specs.Sameness.{is_tick, kept}
 use Rattle.definitions.specs.Limits.{StateLimits}
-use Rattle.definitions.specs.Notes.{operator_note, tenant_note}
+use Rattle.definitions.specs.Notes.{drawn_at, operator_note, tenant_note}
 
 -- what a sheet tells of each tick of a history, latest first
 unfoldable pub notes_of : (Core → Note) → History → List Note
@@ -36,17 +35,17 @@ TenantSheets =
 pub record OperatorTold (s : State) : Type 0 where
   -- by discipline 0 nobody is drawn, and somebody has the slot
   pub served : rule_of s ≡ rule1 → s.discipline ≡ first_come
-      → (operator_note (running s) ≡ Told (outcome_by rule1 (turn s).id s) Undrawn) × (outcome_by rule1 (turn s).id s ≢ None)
+      → (operator_note (running s) ≡ Told (outcome_by rule1 (turn s).id s) None) × (outcome_by rule1 (turn s).id s ≢ Nobody)
   -- by discipline 1, and among the private, the target and the sum are those of the draw
   pub drawn : rule_of s ≡ rule1 → s.discipline ≢ first_come
       → let d = (draw s.side.generator (contender_rate s)).sample in
-      (operator_note (running s) ≡ Told (outcome_by rule1 (turn s).id s) (Drawn d.target d.sum))
+      (operator_note (running s) ≡ Told (outcome_by rule1 (turn s).id s) (drawn_at d.target d.sum))
       × (d.sum ≡ sum_below ids (contender_rate s))
   pub privately : rule_of s ≡ rule2
       → let d = (draw s.side.generator (private_rate s.clients)).sample in
-      (operator_note (running s) ≡ Told (outcome_by rule2 (turn s).id s) (Drawn d.target d.sum))
+      (operator_note (running s) ≡ Told (outcome_by rule2 (turn s).id s) (drawn_at d.target d.sum))
       × (d.sum ≡ sum_below ids (private_rate s.clients))
-  pub nobody : rule_of s ≡ rule3 → operator_note (running s) ≡ Told None Undrawn
+  pub nobody : rule_of s ≡ rule3 → operator_note (running s) ≡ Told Nobody None
 
 -- what a private tenant is told of a slot, rule by rule; nobody's slot does not come up while it is active
 pub record TenantTold (s : State) (id : ℕ) : Type 0 where

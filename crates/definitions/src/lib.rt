@@ -123,19 +123,24 @@ impl Refusal {
     }
 }
 
-// Why a slot is whose it is: by a draw, with its target and the sum of the rates in it, or without one.
+// A draw that a slot went by: its target, and the sum of the rates in it.
 #[derive(Clone, Copy)]
-pub enum Reason {
-    Undrawn,
-    Drawn { target: u32, sum: u64 },
+pub struct Drawing {
+    pub target: u32,
+    pub sum: u64,
 }
 
-// What a sheet tells of a tick: the number of a refusal; the slot, whole; or only that it went to an indifferent client, or to
-// another private one.
+// What a sheet tells of a tick: the number of a refusal; the slot, whole, and for a reason the draw that it went by, if there was one;
+// or only that it went to an indifferent client, or to another private one.
 #[derive(Clone, Copy)]
 pub enum Note {
-    Refusal { number: u32 },
-    Told { outcome: Outcome, reason: Reason },
+    Refusal {
+        number: u32,
+    },
+    Told {
+        outcome: Outcome,
+        reason: Option<Drawing>,
+    },
     ToIndifferent,
     ToAnother,
 }
@@ -151,11 +156,4 @@ pub struct CountSheet {
     // by a change of type
     pub emptied: u64,
     pub dummies: u64,
-}
-
-// What billing gets for an id: its counts, or the number of the first check that failed.
-#[derive(Clone, Copy)]
-pub enum Sheet {
-    Counts { counts: CountSheet },
-    Unavailable { number: u32 },
 }

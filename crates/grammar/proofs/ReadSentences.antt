@@ -6,16 +6,16 @@ use mathlib.Core.Bool.{Bool, true, false, true≢false}
 use mathlib.Core.List.{List, [], ◌∷◌, ◌++◌, Memᴰ, append_assoc}
 use mathlib.Core.Option.{Option, none, some}
 use native.Mathlib.Omega.{arith}
+use Rattle.std.specs.Prelude.{Some, None}
 use lib.ListN.{length}
 use Rattle.definitions.specs.declared.Outcome.{Outcome}
-use Rattle.definitions.specs.declared.Outcome.TheVariants.{Real, Dummy, Idle, None}
-use Rattle.definitions.specs.declared.Reason.{Reason}
-use Rattle.definitions.specs.declared.Reason.TheVariants.{Undrawn, Drawn}
+use Rattle.definitions.specs.declared.Outcome.TheVariants.{Real, Dummy, Idle, None as Nobody}
 use Rattle.definitions.specs.declared.Note.{Note}
 use Rattle.definitions.specs.declared.Note.TheVariants.{Refusal, Told, ToIndifferent, ToAnother}
 use Rattle.definitions.specs.Sizes.{handle_limit}
 use Rattle.definitions.specs.Answers.{values}
 use Rattle.definitions.specs.Checks.{within}
+use Rattle.definitions.specs.Notes.{Reason}
 use Rattle.grammar.specs.Bytes.{bytes}
 use Rattle.grammar.specs.Numerals.{is_digit, decimal}
 use Rattle.grammar.specs.Templates.{is_gap, limits_in, gaps, filled, matched, Phrase}
@@ -127,37 +127,37 @@ unfolding phrase_at phrases limits_in filled sentence printed values drawn_text 
 phrased (Refusal n) = says 0 refl (n ∷ []) refl refl refl refl
 phrased ToIndifferent = says 1 refl [] refl refl refl refl
 phrased ToAnother = says 2 refl [] refl refl refl refl
-phrased (Told (Real id p padding) Undrawn) =
+phrased (Told (Real id p padding) None) =
     says 3 refl (values (Real id p padding) ++ []) refl refl
-    (told-written (Real id p padding) Undrawn (bytes (undrawn_words (Real id p padding))) [] refl refl)
+    (told-written (Real id p padding) None (bytes (undrawn_words (Real id p padding))) [] refl refl)
     refl
-phrased (Told (Real id p padding) (Drawn target sum)) =
-    says 4 refl (values (Real id p padding) ++ (target ∷ sum ∷ [])) refl refl
-    (told-written (Real id p padding) (Drawn target sum) (bytes drawn_words) (target ∷ sum ∷ []) refl refl)
+phrased (Told (Real id p padding) (Some draw)) =
+    says 4 refl (values (Real id p padding) ++ (draw.target ∷ draw.sum ∷ [])) refl refl
+    (told-written (Real id p padding) (Some draw) (bytes drawn_words) (draw.target ∷ draw.sum ∷ []) refl refl)
     refl
-phrased (Told (Dummy id) Undrawn) =
+phrased (Told (Dummy id) None) =
     says 5 refl (values (Dummy id) ++ []) refl refl
-    (told-written (Dummy id) Undrawn (bytes (undrawn_words (Dummy id))) [] refl refl)
+    (told-written (Dummy id) None (bytes (undrawn_words (Dummy id))) [] refl refl)
     refl
-phrased (Told (Dummy id) (Drawn target sum)) =
-    says 6 refl (values (Dummy id) ++ (target ∷ sum ∷ [])) refl refl
-    (told-written (Dummy id) (Drawn target sum) (bytes drawn_words) (target ∷ sum ∷ []) refl refl)
+phrased (Told (Dummy id) (Some draw)) =
+    says 6 refl (values (Dummy id) ++ (draw.target ∷ draw.sum ∷ [])) refl refl
+    (told-written (Dummy id) (Some draw) (bytes drawn_words) (draw.target ∷ draw.sum ∷ []) refl refl)
     refl
-phrased (Told (Idle id) Undrawn) =
+phrased (Told (Idle id) None) =
     says 7 refl (values (Idle id) ++ []) refl refl
-    (told-written (Idle id) Undrawn (bytes (undrawn_words (Idle id))) [] refl refl)
+    (told-written (Idle id) None (bytes (undrawn_words (Idle id))) [] refl refl)
     refl
-phrased (Told (Idle id) (Drawn target sum)) =
-    says 8 refl (values (Idle id) ++ (target ∷ sum ∷ [])) refl refl
-    (told-written (Idle id) (Drawn target sum) (bytes drawn_words) (target ∷ sum ∷ []) refl refl)
+phrased (Told (Idle id) (Some draw)) =
+    says 8 refl (values (Idle id) ++ (draw.target ∷ draw.sum ∷ [])) refl refl
+    (told-written (Idle id) (Some draw) (bytes drawn_words) (draw.target ∷ draw.sum ∷ []) refl refl)
     refl
-phrased (Told None Undrawn) =
-    says 9 refl (values None ++ []) refl refl
-    (told-written None Undrawn (bytes (undrawn_words None)) [] refl refl)
+phrased (Told Nobody None) =
+    says 9 refl (values Nobody ++ []) refl refl
+    (told-written Nobody None (bytes (undrawn_words Nobody)) [] refl refl)
     refl
-phrased (Told None (Drawn target sum)) =
-    says 10 refl (values None ++ (target ∷ sum ∷ [])) refl refl
-    (told-written None (Drawn target sum) (bytes drawn_words) (target ∷ sum ∷ []) refl refl)
+phrased (Told Nobody (Some draw)) =
+    says 10 refl (values Nobody ++ (draw.target ∷ draw.sum ∷ [])) refl refl
+    (told-written Nobody (Some draw) (bytes drawn_words) (draw.target ∷ draw.sum ∷ []) refl refl)
     refl
 
 read_back : (note : Note) → said (sentence note) ≡ some note
@@ -187,16 +187,16 @@ alike one other e =
 
 -- a slot's outcome and reason, and which kind of note it is
 outcome_in : Note → Outcome
-outcome_in (Refusal n) = None
+outcome_in (Refusal n) = Nobody
 outcome_in (Told outcome reason) = outcome
-outcome_in ToIndifferent = None
-outcome_in ToAnother = None
+outcome_in ToIndifferent = Nobody
+outcome_in ToAnother = Nobody
 
 reason_in : Note → Reason
-reason_in (Refusal n) = Undrawn
+reason_in (Refusal n) = None
 reason_in (Told outcome reason) = reason
-reason_in ToIndifferent = Undrawn
-reason_in ToAnother = Undrawn
+reason_in ToIndifferent = None
+reason_in ToAnother = None
 
 is_told : Note → Bool
 is_told (Refusal n) = false

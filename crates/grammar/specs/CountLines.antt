@@ -1,12 +1,10 @@
 -- What `slots --counts` prints for a script, in place of its answers (paper 02, S-7): "for every active client by rising id", behind the
 -- script, its counts "in the order in which billing names them". The lines are spelt as those of a printout are.
-use Rattle.std.specs.Prelude.{ℕ, zero, suc, ◌≡◌, true, false, List, [], ◌∷◌, ◌++◌, ltb, length}
+use Rattle.std.specs.Prelude.{ℕ, zero, suc, ◌≡◌, true, false, List, [], ◌∷◌, ◌++◌, ltb, length, Ok, Err}
 use Rattle.definitions.specs.declared.Answer.TheVariants.{Refused}
 use Rattle.definitions.specs.declared.CountSheet.{CountSheet}
-use Rattle.definitions.specs.declared.Sheet.{Sheet}
-use Rattle.definitions.specs.declared.Sheet.TheVariants.{Counts, Unavailable}
 use Rattle.definitions.specs.Sizes.{ids}
-use Rattle.definitions.specs.Counts.{Whole, whole_new, count_sheet}
+use Rattle.definitions.specs.Counts.{Whole, whole_new, Sheet, count_sheet}
 use Rattle.definitions.specs.Counted.{counts_behind}
 use Rattle.definitions.specs.History.{scheduler, after}
 use Rattle.grammar.specs.Bytes.{bytes, text_limit}
@@ -23,8 +21,8 @@ count_line id c =
 
 -- an id that is not active has no line
 unfoldable pub sheet_line : ℕ → Sheet → List ℕ
-sheet_line id (Counts c) = count_line id c
-sheet_line id (Unavailable n) = []
+sheet_line id (Ok c) = count_line id c
+sheet_line id (Err n) = []
 
 unfoldable pub line_of : Whole → ℕ → List ℕ
 line_of w id = sheet_line id (count_sheet w.core w.counts id)

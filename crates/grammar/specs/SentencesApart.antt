@@ -1,14 +1,13 @@
 -- "Slots that differ in any of these have different sentences, and this is proved"; "the three never alike" (paper 02, S-5): a sentence
 -- can be read back, whatever the numbers in it.
-use Rattle.std.specs.Prelude.{ℕ, suc, ◌≡◌, ◌≢◌, List, [], ◌∷◌, ◌++◌}
+use Rattle.std.specs.Prelude.{ℕ, suc, ◌≡◌, ◌≢◌, List, [], ◌∷◌, ◌++◌, None}
 use Prim.Native.String.{String}
 use Rattle.std.proofs.Math.Option.{Option, none, some}
 use Rattle.definitions.specs.declared.Outcome.{Outcome}
-use Rattle.definitions.specs.declared.Outcome.TheVariants.{Real, Dummy, Idle, None}
-use Rattle.definitions.specs.declared.Reason.{Reason}
-use Rattle.definitions.specs.declared.Reason.TheVariants.{Undrawn, Drawn}
+use Rattle.definitions.specs.declared.Outcome.TheVariants.{Real, Dummy, Idle, None as Nobody}
 use Rattle.definitions.specs.declared.Note.{Note}
 use Rattle.definitions.specs.declared.Note.TheVariants.{Refusal, Told, ToIndifferent, ToAnother}
+use Rattle.definitions.specs.Notes.{Reason, drawn_at}
 use Rattle.grammar.specs.Bytes.{bytes}
 use Rattle.grammar.specs.Templates.{matched, Phrase}
 use Rattle.grammar.specs.Grammar.{nth}
@@ -21,10 +20,10 @@ phrase template note = record { template = bytes template; makes = note }
 -- the two sentences of an outcome, which takes so many numbers: without a draw, and with one, whose numbers stand behind these
 abbrev pub outcome_phrases : ℕ → (List ℕ → Outcome) → List (Phrase Note)
 outcome_phrases count outcome =
-    record { template = bytes (outcome_words (outcome [])) ++ bytes (undrawn_words (outcome [])); makes = λ n. Told (outcome n) Undrawn }
+    record { template = bytes (outcome_words (outcome [])) ++ bytes (undrawn_words (outcome [])); makes = λ n. Told (outcome n) None }
     ∷ record {
       template = bytes (outcome_words (outcome [])) ++ bytes drawn_words;
-      makes = λ n. Told (outcome n) (Drawn (nth n count) (nth n (suc count)));
+      makes = λ n. Told (outcome n) (drawn_at (nth n count) (nth n (suc count)));
     }
     ∷ []
 
@@ -39,7 +38,7 @@ phrases =
     ∷ (outcome_phrases 4 real_of
     ++ outcome_phrases 1 (λ n. Dummy (nth n 0))
     ++ outcome_phrases 1 (λ n. Idle (nth n 0))
-    ++ outcome_phrases 0 (λ n. None))
+    ++ outcome_phrases 0 (λ n. Nobody))
 
 abbrev pub or_else_said : Phrase Note → Option (List ℕ) → Option Note → Option Note
 or_else_said p none rest = rest

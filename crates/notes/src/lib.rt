@@ -2,38 +2,40 @@
 // it went to an indifferent client or to another private one. A tick gives what these functions take.
 #![tactic(auto)]
 
-ghost use Rattle.std.specs.Prelude.{◌≡◌};
+ghost use Rattle.std.specs.Prelude.{◌≡◌, unwrap_or};
+ghost use Rattle.definitions.specs.Sizes.{ids};
 ghost use Rattle.definitions.specs.Notes.{note_of, holder, tenant_checks, tenant_seen};
 ghost use Rattle.tables.specs.declared.Tables.{Tables};
 ghost use Rattle.tables.specs.Meaning.{core_of};
 ghost use Rattle.tables.specs.Numbers.{refusal};
 ghost use Rattle.notes.specs.ReasonLeft.{reason_left};
 
-use definitions::{Answer, IDS, Note, Outcome, Reason};
+use definitions::{Answer, Drawing, Note, Outcome};
 use tables::Control;
 
 // What a sheet of an indifferent client is refused with.
 const INDIFFERENT: u32 = 11;
 
 // By which draw a slot went, if there was one: from the control after it and the sum of the rates in the draw, 0 where there was none.
-pub fn reason(control: Control, sum: u64) -> Reason
+pub fn reason(control: Control, sum: u64) -> Option<Drawing>
     ensures { (t : Tables) → result ≡ reason_left sum (core_of control t) }
 {
     if !control.opened {
-        return Reason::Undrawn;
+        return None;
     }
     if sum == 0 {
-        return Reason::Undrawn;
+        return None;
     }
     let generator = control.generator;
-    Reason::Drawn {
+    Some(Drawing {
         target: draw::remainder(generator.value, sum),
         sum,
-    }
+    })
 }
 
 // What the operator is told where a tick gave an answer for a reason.
-pub fn operator(answer: Answer, reason: Reason) -> Note
+#[tactic(auto, unfolding(definitions::specs::Notes::note_of, definitions::specs::Answers::number))]
+pub fn operator(answer: Answer, reason: Option<Drawing>) -> Note
     ensures { result ≡ note_of answer reason }
 {
     match answer {
@@ -43,22 +45,17 @@ pub fn operator(answer: Answer, reason: Reason) -> Note
     }
 }
 
-// Whose slot it was; of nobody's, and of what is no slot, a number that no client has.
-fn holder_of(answer: Answer) -> u32
-    ensures { result ≡ holder answer }
+// Whose slot it was, if it was somebody's. The definition has a number for nobody, which no client has.
+#[tactic(auto, unfolding(definitions::specs::Notes::holder))]
+fn holder_of(answer: Answer) -> Option<u32>
+    ensures { unwrap_or result ids ≡ holder answer }
 {
     let Answer::Slot { outcome } = answer else {
-        return IDS;
+        return None;
     };
     match outcome {
-        Outcome::Real {
-            id,
-            packet: _,
-            padding: _,
-        } => id,
-        Outcome::Dummy { id } => id,
-        Outcome::Idle { id } => id,
-        Outcome::None => IDS,
+        Outcome::Real { id, .. } | Outcome::Dummy { id } | Outcome::Idle { id } => Some(id),
+        Outcome::None => None,
     }
 }
 
@@ -77,7 +74,7 @@ fn tenant_number(control: Control, id: u32) -> u32
 }
 
 // What a tenant is told where a tick gave an answer for a reason; the control is the one before the tick. Refused: 19, 4, 5, 11.
-pub fn tenant(id: u32, control: Control, answer: Answer, reason: Reason) -> Note
+pub fn tenant(id: u32, control: Control, answer: Answer, reason: Option<Drawing>) -> Note
     ensures { (t : Tables) → result ≡ tenant_seen id (core_of control t) answer reason }
 {
     let number = tenant_number(control, id);
@@ -85,11 +82,10 @@ pub fn tenant(id: u32, control: Control, answer: Answer, reason: Reason) -> Note
         return Note::Refusal { number };
     }
     let whole = operator(answer, reason);
-    let holder = holder_of(answer);
-    if holder == id {
+    let Some(holder) = holder_of(answer) else {
         return whole;
-    }
-    if IDS <= holder {
+    };
+    if holder == id {
         return whole;
     }
     if marks::has(control.indifferent, holder) {

@@ -13,7 +13,7 @@ ghost use Rattle.grammar.specs.CountLines.{count_line};
 ghost use Rattle.printer.specs.Appended.{Appended};
 ghost use Rattle.printer.specs.Printed.{outcome_room, reason_room, line_room, LineWritten, Printed, word_room, pair_line};
 
-use definitions::{Answer, CountSheet, Note, Outcome, Packet, Reason};
+use definitions::{Answer, CountSheet, Drawing, Note, Outcome, Packet};
 
 // The room that a line is given. No line is longer, whatever its numbers.
 pub const LINE_ROOM: usize = 192;
@@ -259,12 +259,12 @@ fn put_outcome(out: &mut [u8], at: usize, outcome: Outcome) -> usize
 // Writes the words of a slot that was not drawn.
 fn put_undrawn(out: &mut [u8], at: usize, outcome: Outcome) -> usize
     requires { at + reason_room ≤ length out.old }
-    ensures { Appended (reason_text outcome Reason.Undrawn) out.old at out.new result }
+    ensures { Appended (reason_text outcome None) out.old at out.new result }
 {
-    if let Outcome::None = outcome {
-        return put(out, at, b".\n");
+    match outcome {
+        Outcome::None => put(out, at, b".\n"),
+        _ => put(out, at, b", first come first served.\n"),
     }
-    put(out, at, b", first come first served.\n")
 }
 
 // Writes the words of a draw.
@@ -282,18 +282,18 @@ fn put_drawn(out: &mut [u8], at: usize, target: u32, sum: u64) -> usize
 }
 
 // Writes the words of a reason.
-fn put_reason(out: &mut [u8], at: usize, outcome: Outcome, reason: Reason) -> usize
+fn put_reason(out: &mut [u8], at: usize, outcome: Outcome, reason: Option<Drawing>) -> usize
     requires { at + reason_room ≤ length out.old }
     ensures { Appended (reason_text outcome reason) out.old at out.new result }
 {
     match reason {
-        Reason::Undrawn => put_undrawn(out, at, outcome),
-        Reason::Drawn { target, sum } => put_drawn(out, at, target, sum),
+        None => put_undrawn(out, at, outcome),
+        Some(draw) => put_drawn(out, at, draw.target, draw.sum),
     }
 }
 
 // Writes the sentence of a slot.
-fn put_told(out: &mut [u8], at: usize, outcome: Outcome, reason: Reason) -> usize
+fn put_told(out: &mut [u8], at: usize, outcome: Outcome, reason: Option<Drawing>) -> usize
     requires { at + line_room ≤ length out.old }
     ensures { Appended (sentence (Note.Told outcome reason)) out.old at out.new result }
 {

@@ -8,7 +8,6 @@ use mathlib.Core.Bool.{Bool, true, false, cond}
 use mathlib.Core.List.{List, []}
 use native.Mathlib.Omega.{arith}
 use Rattle.definitions.specs.declared.Answer.{Answer}
-use Rattle.definitions.specs.declared.Reason.{Reason}
 use Rattle.definitions.specs.declared.Note.{Note}
 use Rattle.definitions.specs.State.{Core}
 use Rattle.definitions.specs.Event.{Event, Tick}
@@ -16,7 +15,7 @@ use Rattle.definitions.specs.Core.{step}
 use Rattle.definitions.specs.History.{draws_of}
 use Rattle.definitions.specs.Sameness.{is_tick}
 use Rattle.definitions.specs.Limits.{CoreLimits}
-use Rattle.definitions.specs.Notes.{reason_of, note_of, operator_note, tenant_seen, tenant_note}
+use Rattle.definitions.specs.Notes.{Reason, reason_of, note_of, operator_note, tenant_seen, tenant_note}
 use Rattle.definitions.proofs.ToldNotes.{tick_event, seen_after}
 use Rattle.grammar.specs.declared.Audience.{Audience}
 use Rattle.grammar.specs.declared.Audience.TheVariants.{Caller, Operator, Tenant}

@@ -152,13 +152,11 @@ fn print_unread(audience: Audience, out: &mut [u8], at: usize, number: u32) -> u
 }
 
 // Whether a call is a tick.
+#[tactic(auto, unfolding(definitions::specs::Traces::is_tick))]
 fn is_tick(call: Call) -> bool
     ensures { result ≡ is_tick (event_of call) }
 {
-    if let Call::Tick = call {
-        return true;
-    }
-    false
+    matches!(call, Call::Tick)
 }
 
 // What an audience is told of a tick that gave an answer and left a control; the caller, who is given the answer, would be told what the

@@ -6,8 +6,8 @@ use mathlib.Core.Logic.{◌≢◌}
 use mathlib.Core.Bool.{Bool, true, false, cond}
 use mathlib.Core.List.{[]}
 use native.Mathlib.Omega.{arith}
+use Rattle.std.specs.Prelude.{Ok, Err}
 use borrow.Author.Tests.{lt-ltb}
-use Rattle.definitions.specs.declared.Sheet.TheVariants.{Counts, Unavailable}
 use Rattle.definitions.specs.Sizes.{ids}
 use Rattle.definitions.specs.State.{unopened, running}
 use Rattle.definitions.specs.Checks.{first_failed, active_checks}
@@ -19,19 +19,19 @@ use Rattle.tables.specs.Meaning.{state_of, core_of, counts_of}
 use Rattle.tables.specs.Numbers.{refusal}
 use Rattle.tables.proofs.ActiveChecks.{active_past}
 
-unless_some : (n : ℕ) (tally : Tally) → n ≢ 0 → Unavailable n ≡ unless_unavailable n tally
+unless_some : (n : ℕ) (tally : Tally) → n ≢ 0 → Err n ≡ unless_unavailable n tally
 unless_some zero tally some = absurd (some refl)
 unless_some (suc n) tally some = refl
 
 module _ (c : Control) (t : Tables) (id n : ℕ) (number : n ≡ refusal c t (λ s. active_checks s id [])) where
-  pub sheet-refused : n ≢ 0 → Unavailable n ≡ count_sheet (core_of c t) (counts_of c t) id
+  pub sheet-refused : n ≢ 0 → Err n ≡ count_sheet (core_of c t) (counts_of c t) id
   unfolding refusal core_of count_sheet
   sheet-refused some = go c.opened number
     where
       go : (o : Bool) → n ≡ cond o (first_failed (active_checks (state_of c t) id [])) 19
-          → Unavailable n ≡ count_sheet (cond o (running (state_of c t)) unopened) (counts_of c t) id
+          → Err n ≡ count_sheet (cond o (running (state_of c t)) unopened) (counts_of c t) id
       go true e = unless_some n (counts_of c t id) some ∙ ap (λ (m : ℕ). unless_unavailable m (counts_of c t id)) e
-      go false e = ap Unavailable e
+      go false e = ap (λ (m : ℕ). Err m) e
 
   module _ (none : n ≡ 0) where
     past : (c.opened ≡ true) × (id < ids)
@@ -40,7 +40,7 @@ module _ (c : Control) (t : Tables) (id n : ℕ) (number : n ≡ refusal c t (λ
     pub sheet_below : id < ids
     sheet_below = past.1
 
-    pub sheet-given : Counts (sheet_of (count_in t.counts id)) ≡ count_sheet (core_of c t) (counts_of c t) id
+    pub sheet-given : Ok (sheet_of (count_in t.counts id)) ≡ count_sheet (core_of c t) (counts_of c t) id
     unfolding refusal core_of counts_of count_sheet
     sheet-given =
         rw (past.0, lt-ltb id ids past.1)

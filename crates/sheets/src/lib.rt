@@ -7,19 +7,17 @@ ghost use Rattle.tables.specs.declared.Tables.{Tables};
 ghost use Rattle.tables.specs.Meaning.{core_of, counts_of};
 
 use counts::COUNTS;
-use definitions::Sheet;
+use definitions::CountSheet;
 use tables::Control;
 
-// The six counts of an id since its join, in the order in which billing names them. Unavailable: 19, 4, 5. It changes nothing.
-pub fn sheet(control: Control, counts: &[u64; COUNTS], id: u32) -> Sheet
+// The six counts of an id since its join, in the order in which billing names them. Refused with 19, 4, 5. It changes nothing.
+pub fn sheet(control: Control, counts: &[u64; COUNTS], id: u32) -> Result<CountSheet, u32>
     ensures { (t : Tables) → t.counts ≡ counts.now
         → result ≡ count_sheet (core_of control t) (counts_of control t) id }
 {
     let number = tables::active_number(control, id);
     if number != 0 {
-        return Sheet::Unavailable { number };
+        return Err(number);
     }
-    Sheet::Counts {
-        counts: counts::sheet(counts, id),
-    }
+    Ok(counts::sheet(counts, id))
 }

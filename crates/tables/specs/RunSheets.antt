@@ -4,12 +4,11 @@
 -- load alters a line" of a tenant's, for any two runs.
 use Rattle.std.specs.Prelude.{ℕ, ◌≡◌, cond, List, [], ◌∷◌}
 use Rattle.definitions.specs.declared.Answer.{Answer}
-use Rattle.definitions.specs.declared.Reason.{Reason}
 use Rattle.definitions.specs.declared.Note.{Note}
 use Rattle.definitions.specs.State.{Core}
 use Rattle.definitions.specs.History.{calls, draws_of, Trace}
 use Rattle.definitions.specs.Sameness.{is_tick, kept}
-use Rattle.definitions.specs.Notes.{reason_of, note_of, operator_note, tenant_seen, tenant_note}
+use Rattle.definitions.specs.Notes.{Reason, reason_of, note_of, operator_note, tenant_seen, tenant_note}
 use Rattle.definitions.specs.TenantSheet.{notes_of}
 use Rattle.tables.specs.declared.Control.{Control}
 use Rattle.tables.specs.declared.Tables.{Tables}

@@ -8,7 +8,6 @@ use lib.Dec.{eqb}
 use borrow.Author.Tests.{not-true}
 use Rattle.definitions.specs.declared.Outcome.{Outcome}
 use Rattle.definitions.specs.declared.Answer.TheVariants.{Slot}
-use Rattle.definitions.specs.declared.Reason.{Reason}
 use Rattle.definitions.specs.declared.Note.{Note}
 use Rattle.definitions.specs.declared.Note.TheVariants.{ToAnother}
 use Rattle.definitions.specs.Client.{is_private}
@@ -19,7 +18,7 @@ use Rattle.definitions.specs.Tick.{Rule, rule1, rule2, rule3, turn, outcome_by, 
 use Rattle.definitions.specs.Core.{step}
 use Rattle.definitions.specs.History.{History, start, ◌then◌, scheduler, after, dealing_at, trace_of}
 use Rattle.definitions.specs.Sameness.{is_tick, is_struck, kept}
-use Rattle.definitions.specs.Notes.{reason_of, seen_by, tenant_checks, unless_refused, tenant_seen, tenant_note}
+use Rattle.definitions.specs.Notes.{Reason, reason_of, seen_by, tenant_checks, unless_refused, tenant_seen, tenant_note}
 use Rattle.definitions.specs.TenantSheet.{notes_of, TenantSheets}
 use Rattle.definitions.proofs.Laws.Tests.{true-false, and_both}
 use Rattle.definitions.proofs.Laws.Kinds.{private_kind_lem}
