@@ -45,7 +45,7 @@ fn counts(value: u32, total: u64) -> bool
     if total == 0 {
         return false;
     }
-    let number = tables::wide(value);
+    let number = u64::from(value);
     if total <= VALUES - number {
         return true;
     }
@@ -56,10 +56,7 @@ fn counts(value: u32, total: u64) -> bool
 fn is_thrown(value: u32, total: u64, steps: u32) -> bool
     ensures { result ≡ leb steps throws && not (ltb value (even_span total)) }
 {
-    if THROWS < steps {
-        return false;
-    }
-    !counts(value, total)
+    steps <= THROWS && !counts(value, total)
 }
 
 // The remainder of a value; all of it, where the total is 0.
@@ -69,7 +66,7 @@ pub fn remainder(value: u32, total: u64) -> u32
     if total == 0 {
         return value;
     }
-    (tables::wide(value) % total) as u32
+    (u64::from(value) % total) as u32
 }
 
 // A target below the total, with even odds (paper 02, S-1): a value not below the largest multiple is thrown away, at most eight in
@@ -95,12 +92,9 @@ pub fn sample_below(total: u64, generator: Generator) -> Sample
 pub fn total(word: u64, terms: &[u32; TERMS]) -> u64
     ensures { result ≡ sum_below ids (weight_at word terms.now) }
 {
-    let mut left = word;
     let mut sum: u64 = 0;
-    while left != 0 {
-        let id = marks::first(left);
-        sum += tables::wide(terms[id as usize]);
-        left = marks::rest(left);
+    for id in marks::ids(word) {
+        sum += u64::from(terms[id as usize]);
     }
     sum
 }
@@ -109,16 +103,13 @@ pub fn total(word: u64, terms: &[u32; TERMS]) -> u64
 pub fn pick(word: u64, terms: &[u32; TERMS], target: u32) -> u32
     ensures { result ≡ drawn_at (weight_at word terms.now) target }
 {
-    let limit = target as u64;
-    let mut left = word;
+    let limit = u64::from(target);
     let mut reached: u64 = 0;
-    while left != 0 {
-        let id = marks::first(left);
-        reached += tables::wide(terms[id as usize]);
+    for id in marks::ids(word) {
+        reached += u64::from(terms[id as usize]);
         if limit < reached {
             return id;
         }
-        left = marks::rest(left);
     }
     IDS
 }

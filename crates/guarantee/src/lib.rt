@@ -15,6 +15,7 @@ ghost use Rattle.guarantee.specs.Demands.{demand_at};
 use tables::{COUNT, Control, LEVEL, RATE, STOCKS, TERMS};
 
 // What one client may take of the next slots.
+#[tactic(auto, unfolding(definitions::specs::Sizes::ids, tables::specs::Tables::field, crate::specs::Demands::demand_at))]
 fn demand_at(terms: &[u32; TERMS], stocks: &[u32; STOCKS], id: u32, ticks: u32) -> u64
     requires { id < ids }
     ensures { (result ≡ demand_at terms.now stocks.now ticks id) × (result < 2 ^ 55) }
@@ -22,19 +23,16 @@ fn demand_at(terms: &[u32; TERMS], stocks: &[u32; STOCKS], id: u32, ticks: u32) 
     let rate = terms[(RATE + id) as usize];
     let level = terms[(LEVEL + id) as usize];
     let waiting = stocks[(COUNT + id) as usize];
-    tables::wide(waiting) + bucket::tokens(level, rate, ticks)
+    u64::from(waiting) + bucket::tokens(level, rate, ticks)
 }
 
 // What all marked clients may take. The sum of 64 demands fits a u64.
 fn demand(word: u64, terms: &[u32; TERMS], stocks: &[u32; STOCKS], ticks: u32) -> u64
     ensures { result ≡ sum_below ids (marked_number word (demand_at terms.now stocks.now ticks)) }
 {
-    let mut left = word;
     let mut sum: u64 = 0;
-    while left != 0 {
-        let id = marks::first(left);
+    for id in marks::ids(word) {
         sum += demand_at(terms, stocks, id, ticks);
-        left = marks::rest(left);
     }
     sum
 }
@@ -46,16 +44,10 @@ pub fn sure(control: Control, terms: &[u32; TERMS], stocks: &[u32; STOCKS], tick
         → Valid control (tables terms.now stocks.now handles lengths links counts)
         → result ≡ sure (core_of control (tables terms.now stocks.now handles lengths links counts)) ticks }
 {
-    if !control.opened {
-        return 0;
-    }
-    if !marks::any(control.private) {
+    if !control.opened || !marks::any(control.private) {
         return 0;
     }
     let taken = demand(control.indifferent, terms, stocks, ticks);
-    let slots = tables::wide(ticks);
-    if slots <= taken {
-        return 0;
-    }
-    (slots - taken) as u32
+    let slots = u64::from(ticks);
+    slots.saturating_sub(taken) as u32
 }

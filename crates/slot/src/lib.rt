@@ -58,12 +58,12 @@ fn private_total(control: Control, terms: &[u32; TERMS]) -> u64
     ensures { result ≡ sum_below ids (weight_at control.private terms.now) }
 {
     if control.indifferent == 0 {
-        return tables::wide(control.rates);
+        return u64::from(control.rates);
     }
     if u64::count_ones(control.private) < u64::count_ones(control.indifferent) {
         return draw::total(control.private, terms);
     }
-    tables::wide(control.rates) - draw::total(control.indifferent, terms)
+    u64::from(control.rates) - draw::total(control.indifferent, terms)
 }
 
 // A draw among the marked ids, by their rates, whose sum is the total.
@@ -280,16 +280,13 @@ fn refill_marked(word: u64, terms: &mut [u32; TERMS])
     requires { Refillable word terms.old }
     ensures { Refilled word terms.old terms.new }
 {
-    let mut left = word;
-    while left != 0 {
-        let id = marks::first(left);
+    for id in marks::ids(word) {
         let at = (LEVEL + id) as usize;
         terms[at] = bucket::level_after(
             terms[at],
             terms[id as usize],
             terms[(BURST + id) as usize],
         );
-        left = marks::rest(left);
     }
 }
 
@@ -298,14 +295,12 @@ fn refill_each(word: u64, terms: &mut [u32; TERMS])
     requires { Refillable word terms.old }
     ensures { Refilled word terms.old terms.new }
 {
-    let mut id: usize = 0;
-    while id < EACH {
+    for id in 0..EACH {
         terms[FIRST_LEVEL + id] = bucket::level_after(
             terms[FIRST_LEVEL + id],
             terms[id],
             terms[FIRST_BURST + id],
         );
-        id += 1;
     }
 }
 
