@@ -3,7 +3,6 @@
 
 ghost use Rattle.io.specs.Counts.{IsPrefixLen};
 
-use parser::Word;
 use std::env::{Env, FillError};
 
 // The room of an argument: more than any word or number that is taken. One that is missing or longer is read as no bytes at all.
@@ -27,7 +26,7 @@ pub fn read(rt: &impl Env, i: usize, room: &mut [u8; ARGUMENT]) -> usize
 }
 
 // The number that an argument is.
-pub fn number(rt: &impl Env, i: usize) -> Word {
+pub fn number(rt: &impl Env, i: usize) -> Option<u32> {
     let mut room = [0u8; ARGUMENT];
     let length = read(rt, i, &mut room);
     parser::number(&room[..length])

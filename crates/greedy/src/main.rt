@@ -16,7 +16,6 @@ use counts::COUNTS;
 use definitions::{Answer, INDIFFERENT, SHARES};
 use grammar::Call;
 use order::LINKS;
-use parser::Word;
 use runs::Progress;
 use std::io::Result;
 use tables::{Control, LEVEL, STOCKS, STORE, TERMS};
@@ -348,13 +347,11 @@ fn main(rt: HostRuntime) {
         usage(&rt);
         return;
     }
-    let first = arguments::number(&rt, 1);
-    let Word::Number { value: seed } = first else {
+    let Some(seed) = arguments::number(&rt, 1) else {
         usage(&rt);
         return;
     };
-    let second = arguments::number(&rt, 2);
-    let Word::Number { value: count } = second else {
+    let Some(count) = arguments::number(&rt, 2) else {
         usage(&rt);
         return;
     };

@@ -7,7 +7,6 @@ ghost use Rattle.runs.specs.LongRun.{block, after};
 
 use counts::COUNTS;
 use order::LINKS;
-use parser::Word;
 use tables::{STOCKS, STORE, TERMS};
 use tally::BLOCK;
 
@@ -59,13 +58,11 @@ fn main(rt: HostRuntime) {
         usage(&rt);
         return;
     }
-    let first = arguments::number(&rt, 1);
-    let Word::Number { value: seed } = first else {
+    let Some(seed) = arguments::number(&rt, 1) else {
         usage(&rt);
         return;
     };
-    let second = arguments::number(&rt, 2);
-    let Word::Number { value: count } = second else {
+    let Some(count) = arguments::number(&rt, 2) else {
         usage(&rt);
         return;
     };

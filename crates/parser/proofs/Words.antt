@@ -9,7 +9,7 @@ use lib.ListN.{length, length-drop}
 use Rattle.definitions.specs.Sizes.{number_limit}
 use Rattle.grammar.specs.Numerals.{leading, behind, value_from}
 use Rattle.parser.specs.declared.Numeral.{Numeral}
-use Rattle.parser.specs.declared.Word.TheVariants.{Number, Other}
+use Rattle.std.specs.Prelude.{Some, None}
 use Rattle.parser.specs.Numbers.{Spells}
 use Rattle.parser.specs.Words.{word_of}
 
@@ -18,12 +18,12 @@ module _ {word : List ℕ} {n : Numeral} (s : Spells number_limit word word n) w
   left : length (behind word) ≡ length word - n.next
   left = ap length (sym s.after) ∙ length-drop n.next word
 
-  pub word_unspelled : n.is ≡ false → Other ≡ word_of word
+  pub word_unspelled : n.is ≡ false → None ≡ word_of word
   unfolding word_of
   word_unspelled e = rw (← s.right, e)
 
   module _ (e : n.is ≡ true) where
-    pub word-longer : n.next < length word → Other ≡ word_of word
+    pub word-longer : n.next < length word → None ≡ word_of word
     unfolding word_of
     word-longer h = rw (← s.right, e, ne_eqb (length (behind word)) 0 (λ z. omega (arith, left)))
 
@@ -31,7 +31,7 @@ module _ {word : List ℕ} {n : Numeral} (s : Spells number_limit word word n) w
       none : length (behind word) ≡ 0
       none = omega (arith, left)
 
-      pub word_large : n.large ≡ true → Other ≡ word_of word
+      pub word_large : n.large ≡ true → None ≡ word_of word
       unfolding word_of
       word_large over =
           let above = ltb-true number_limit (value_from 0 (leading word)) (sym s.size ∙ over) in
@@ -44,6 +44,6 @@ module _ {word : List ℕ} {n : Numeral} (s : Spells number_limit word word n) w
         pub word_fits : n.value ≤ number_limit
         word_fits = rw (s.amount fits) low
 
-        pub word_number : Number n.value ≡ word_of word
+        pub word_number : Some n.value ≡ word_of word
         unfolding word_of
         word_number = rw (← s.right, e, eq-eqb _ _ none, le-leb (value_from 0 (leading word)) number_limit low, s.amount fits)

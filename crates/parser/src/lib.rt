@@ -72,13 +72,6 @@ struct Numeral {
     next: usize,
 }
 
-// A word that is one number, or any other.
-#[derive(Clone, Copy)]
-pub enum Word {
-    Number { value: u32 },
-    Other,
-}
-
 // A byte of a template: whether it is a gap, and the largest number that may stand there.
 #[derive(Clone, Copy)]
 struct Gap {
@@ -212,22 +205,20 @@ fn read_numeral(line: &[u8], from: usize, limit: u64) -> Numeral
 }
 
 // The number that a word is, where it is one and nothing else.
-pub fn number(word: &[u8]) -> Word
+pub fn number(word: &[u8]) -> Option<u32>
     ensures { result ≡ word_of word.now }
 {
     let numeral = read_numeral(word, 0, NUMBER_LIMIT);
     if !numeral.is {
-        return Word::Other;
+        return None;
     }
     if numeral.next < word.len() {
-        return Word::Other;
+        return None;
     }
     if numeral.large {
-        return Word::Other;
+        return None;
     }
-    Word::Number {
-        value: numeral.value as u32,
-    }
+    Some(numeral.value as u32)
 }
 
 // Which bytes of a template are gaps, and the largest number that may stand in each.

@@ -15,7 +15,6 @@ ghost use Rattle.remains.specs.Started.{stretch, started, Starts};
 use counts::COUNTS;
 use definitions::PLACES;
 use order::{END, LINKS};
-use parser::Word;
 use runs::Progress;
 use tables::{COUNT, HEAD, STOCKS, STORE, TERMS};
 use tally::BLOCK;
@@ -200,23 +199,19 @@ fn main(rt: HostRuntime) {
         usage(&rt);
         return;
     }
-    let first = arguments::number(&rt, 1);
-    let Word::Number { value: seed } = first else {
+    let Some(seed) = arguments::number(&rt, 1) else {
         usage(&rt);
         return;
     };
-    let second = arguments::number(&rt, 2);
-    let Word::Number { value: count } = second else {
+    let Some(count) = arguments::number(&rt, 2) else {
         usage(&rt);
         return;
     };
-    let third = arguments::number(&rt, 3);
-    let Word::Number { value: number } = third else {
+    let Some(number) = arguments::number(&rt, 3) else {
         usage(&rt);
         return;
     };
-    let fourth = arguments::number(&rt, 4);
-    let Word::Number { value: earlier } = fourth else {
+    let Some(earlier) = arguments::number(&rt, 4) else {
         usage(&rt);
         return;
     };

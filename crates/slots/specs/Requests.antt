@@ -1,13 +1,11 @@
 -- What the arguments ask for, and the bytes that are then written behind a text: without any its printout, with an option another
 -- sheet, the forecast or the count sheets, and with any others nothing.
-use Rattle.std.specs.Prelude.{ℕ, Bool, true, false, cond, ◌&&◌, List, [], ◌∷◌, eqb, leb}
+use Rattle.std.specs.Prelude.{ℕ, Bool, true, false, cond, ◌&&◌, List, [], ◌∷◌, eqb, leb, Option, Some, None}
 use Rattle.grammar.specs.declared.Audience.TheVariants.{Caller, Operator, Tenant}
 use Rattle.grammar.specs.Bytes.{bytes}
 use Rattle.grammar.specs.Printout.{printout_for}
 use Rattle.grammar.specs.Forecast.{forecast_behind}
 use Rattle.grammar.specs.CountLines.{counts_printed}
-use Rattle.parser.specs.declared.Word.{Word}
-use Rattle.parser.specs.declared.Word.TheVariants.{Number, Other}
 use Rattle.slots.specs.declared.Request.{Request}
 use Rattle.slots.specs.declared.Request.TheVariants.{Printout, Forecast, Bill, Help, Unknown}
 
@@ -31,12 +29,12 @@ numbered option value =
     (cond (same_bytes option (bytes "--tenant")) (Printout (Tenant value)) Unknown)
 
 -- "a number of the script's spelling", and not above the largest
-abbrev pub with_word : List ℕ → Word → Request
-with_word option (Number value) = numbered option value
-with_word option Other = Unknown
+abbrev pub with_word : List ℕ → Option ℕ → Request
+with_word option (Some value) = numbered option value
+with_word option None = Unknown
 
 -- the request of so many arguments, the program's name among them: the first behind it is the option, the second reads as a word
-unfoldable pub asked : ℕ → List ℕ → Word → Request
+unfoldable pub asked : ℕ → List ℕ → Option ℕ → Request
 asked count option word =
     cond (leb count 1) (Printout Caller) (cond (eqb count 2) (alone option) (cond (eqb count 3) (with_word option word) Unknown))
 

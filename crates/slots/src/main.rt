@@ -16,7 +16,6 @@ use arguments::ARGUMENT;
 use counts::COUNTS;
 use grammar::Audience;
 use order::LINKS;
-use parser::Word;
 use script::Progress;
 use std::env::Env;
 use streams::{Reading, Writing};
@@ -191,7 +190,7 @@ fn request_of(count: usize, option: &[u8], number: &[u8]) -> Request
         return Request::Unknown;
     }
     let word = parser::number(number);
-    let Word::Number { value } = word else {
+    let Some(value) = word else {
         return Request::Unknown;
     };
     option_with(option, value)

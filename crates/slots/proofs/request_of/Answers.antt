@@ -1,12 +1,11 @@
 -- `slots::request_of` meets its contract: each test says how many arguments there are. Assumes nothing.
-use Rattle.std.proofs.Common.{◌≡◌, ◌≢◌, ◌<◌, ℕ, List, sym, ap, ◌∙◌, arith, eq-eqb, ne_eqb, le-leb}
+use Rattle.std.proofs.Common.{◌≡◌, ◌≢◌, ◌<◌, ℕ, List, sym, ap, ◌∙◌, arith, Option, eq-eqb, ne_eqb, le-leb}
 use Rattle.std.proofs.lemmas.Bool.{lt-leb}
-use Rattle.parser.specs.declared.Word.{Word}
 use Rattle.slots.specs.declared.Request.TheVariants.{Unknown}
 use Rattle.slots.specs.Requests.{alone, with_word, asked}
 use Rattle.slots.proofs.request_of.Goals as goal
 
-module _ (count : ℕ) (option : List ℕ) (word : Word) (more : 1 < count) where
+module _ (count : ℕ) (option : List ℕ) (word : Option ℕ) (more : 1 < count) where
   asks_option : count ≡ 2 → asked count option word ≡ alone option
   unfolding asked
   asks_option two = rw (lt-leb count 1 more, eq-eqb count 2 two)
@@ -42,4 +41,4 @@ returns c =
     let option = c.args.option.now in
     c.option_with.ensures
     ∙ sym (asks_numbered _ option _ c.if-count-le-NO_ARGUMENTS.false c.if-count-ne-NUMBERED.false
-    ∙ ap (with_word option) (sym c.number-word.ensures ∙ c.in-Number.is))
+    ∙ ap (with_word option) (sym c.number-word.ensures ∙ c.in-Some.is))
