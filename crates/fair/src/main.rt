@@ -7,7 +7,7 @@ ghost use Rattle.grammar.specs.FairSheet.{fair_printout};
 ghost use Rattle.streams.specs.Writing.{HandedOn};
 
 use fairsheet::SHEET_ROOM;
-use streams::{Reading, Writing};
+use std::io::Error;
 
 // The program's name alone.
 const NO_ARGUMENTS: usize = 1;
@@ -20,32 +20,30 @@ fn has_none(count: usize) -> bool
 }
 
 // Writes the printout of a text, with room for the lines of all rates.
-fn write_printout(rt: &impl Print, text: &[u8]) -> Writing
+fn write_printout(rt: &impl Print, text: &[u8]) -> Result<usize, Error>
     ensures { HandedOn result (fair_printout text.now) }
 {
     let mut out: [u8; SHEET_ROOM] = [0; SHEET_ROOM];
     let written = fairsheet::print(text, &mut out);
-    streams::write_text(rt, &out[..written])
+    streams::write_to(rt, &out[..written])
 }
 
-// The room for the text is more than the longest that is read, so that a longer one is seen to be longer. What cannot be read or
-// written is told on standard error.
+// Reads the text and writes its printout, or gives what failed, and why. The room for the text is more than the longest that is read, so
+// that a longer one is seen to be longer.
+fn run(rt: &HostRuntime) -> Result<usize, (&'static str, Error)> {
+    let mut text = io::large_buffer();
+    let read = streams::read_text(&mut rt.stdin(), &mut text);
+    let length = read.map_err(|error| ("fair: standard input", error))?;
+    write_printout(rt, &text[..length]).map_err(|error| ("fair: standard output", error))
+}
+
+// What cannot be read or written is told on standard error.
 fn main(rt: HostRuntime) {
     if !has_none(arguments::count(&rt)) {
         let _ = eprintln!(rt; "usage: fair");
         return;
     }
-    let mut text = io::large_buffer();
-    let got = streams::read_text(&mut rt.stdin(), &mut text);
-    let length = match got {
-        Reading::Bytes(length) => length,
-        Reading::Failed(error) => {
-            streams::tell(&rt, "fair: standard input", error);
-            return;
-        }
-    };
-    let put = write_printout(&rt, &text[..length]);
-    if let Writing::Failed(error) = put {
-        streams::tell(&rt, "fair: standard output", error);
+    if let Err((what, error)) = run(&rt) {
+        streams::tell(&rt, what, error);
     }
 }

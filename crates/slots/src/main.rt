@@ -18,7 +18,7 @@ use grammar::Audience;
 use order::LINKS;
 use script::Progress;
 use std::env::Env;
-use streams::{Reading, Writing};
+use std::io::Error;
 use tables::{STOCKS, STORE, TERMS};
 
 // The program's name alone; with it an option; and with it an option and its number.
@@ -47,7 +47,7 @@ fn write_pieces(
     out: &mut [u8],
     first: Progress,
     tables: &mut Tables,
-) -> Writing
+) -> Result<usize, Error>
     requires { Start text.now out.old first × (piece_room ≡ length out.old) }
     ensures { HandedOn result (printout_for audience text.now) }
 {
@@ -56,11 +56,9 @@ fn write_pieces(
     let mut written = first.written;
     let mut total = written;
     loop {
-        if let Err(error) = rt.write_all(&out[..written]) {
-            return Writing::Failed(error);
-        }
+        rt.write_all(&out[..written])?;
         if at >= text.len() {
-            return Writing::Bytes(total);
+            return Ok(total);
         }
         let piece = script::piece(
             audience, text, at, out, control, tables,
@@ -73,7 +71,7 @@ fn write_pieces(
 }
 
 // Writes the printout of a text for an audience, on tables of its own.
-fn write_printout(rt: &impl Print, audience: Audience, text: &[u8]) -> Writing
+fn write_printout(rt: &impl Print, audience: Audience, text: &[u8]) -> Result<usize, Error>
     ensures { HandedOn result (printout_for audience text.now) }
 {
     let mut tables = Tables::filled(0);
@@ -90,7 +88,7 @@ fn write_printout(rt: &impl Print, audience: Audience, text: &[u8]) -> Writing
 }
 
 // Writes the forecast behind a text, on tables of its own.
-fn write_forecast(rt: &impl Print, text: &[u8], ticks: u32) -> Writing
+fn write_forecast(rt: &impl Print, text: &[u8], ticks: u32) -> Result<usize, Error>
     ensures { HandedOn result (forecast_behind text.now ticks) }
 {
     let mut tables = Tables::filled(0);
@@ -101,11 +99,11 @@ fn write_forecast(rt: &impl Print, text: &[u8], ticks: u32) -> Writing
         &mut out,
         &mut tables,
     );
-    streams::write_text(rt, &out[..written])
+    streams::write_to(rt, &out[..written])
 }
 
 // Writes the count sheets behind a text, on tables of its own. The buffer has room for the line of every id.
-fn write_bill(rt: &impl Print, text: &[u8]) -> Writing
+fn write_bill(rt: &impl Print, text: &[u8]) -> Result<usize, Error>
     ensures { HandedOn result (counts_printed text.now) }
 {
     let mut tables = Tables::filled(0);
@@ -115,11 +113,11 @@ fn write_bill(rt: &impl Print, text: &[u8]) -> Writing
         &mut out,
         &mut tables,
     );
-    streams::write_text(rt, &out[..written])
+    streams::write_to(rt, &out[..written])
 }
 
 // Writes the line of usage.
-fn write_usage(file: &impl Print) -> Writing
+fn write_usage(file: &impl Print) -> Result<usize, Error>
     ensures { HandedOn result usage }
 {
     streams::write_to(
@@ -129,7 +127,7 @@ fn write_usage(file: &impl Print) -> Writing
 }
 
 // Writes what is asked for.
-fn write_requested(rt: &impl Print, text: &[u8], request: Request) -> Writing
+fn write_requested(rt: &impl Print, text: &[u8], request: Request) -> Result<usize, Error>
     ensures { HandedOn result (requested request text.now) }
 {
     match request {
@@ -137,7 +135,7 @@ fn write_requested(rt: &impl Print, text: &[u8], request: Request) -> Writing
         Request::Forecast { ticks } => write_forecast(rt, text, ticks),
         Request::Bill => write_bill(rt, text),
         Request::Help => write_usage(rt),
-        Request::Unknown => Writing::Bytes(0),
+        Request::Unknown => Ok(0),
     }
 }
 
@@ -205,33 +203,29 @@ fn read_arguments(rt: &impl Env) -> Request {
     request_of(arguments::count(rt), &option[..first], &number[..second])
 }
 
-// What cannot be written is told on standard error.
-fn report(rt: &impl Eprint, put: Writing) {
-    if let Writing::Failed(error) = put {
-        streams::tell(rt, "slots: standard output", error);
-    }
+// Does what is asked for, or gives what failed, and why. The room for the text is more than the longest that is read, so that a longer
+// one is seen to be longer.
+fn run(rt: &HostRuntime, request: Request) -> Result<usize, (&'static str, Error)> {
+    let mut text = io::large_buffer();
+    let length = match request {
+        Request::Help => 0,
+        _ => {
+            let read = streams::read_text(&mut rt.stdin(), &mut text);
+            read.map_err(|error| ("slots: standard input", error))?
+        }
+    };
+    let written = write_requested(rt, &text[..length], request);
+    written.map_err(|error| ("slots: standard output", error))
 }
 
-// The room for the text is more than the longest that is read, so that a longer one is seen to be longer. The exit status says
-// nothing: what cannot be read is told on standard error.
+// The exit status says nothing: what cannot be read or written is told on standard error.
 fn main(rt: HostRuntime) {
     let request = read_arguments(&rt);
     if let Request::Unknown = request {
-        write_usage(&rt.stderr());
+        let _ = write_usage(&rt.stderr());
         return;
     }
-    if let Request::Help = request {
-        report(&rt, write_requested(&rt, b"", request));
-        return;
+    if let Err((what, error)) = run(&rt, request) {
+        streams::tell(&rt, what, error);
     }
-    let mut text = io::large_buffer();
-    let got = streams::read_text(&mut rt.stdin(), &mut text);
-    let length = match got {
-        Reading::Bytes(length) => length,
-        Reading::Failed(error) => {
-            streams::tell(&rt, "slots: standard input", error);
-            return;
-        }
-    };
-    report(&rt, write_requested(&rt, &text[..length], request));
 }

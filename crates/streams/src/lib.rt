@@ -5,7 +5,7 @@
 ghost use Rattle.streams.specs.Reading.{Within};
 ghost use Rattle.streams.specs.Writing.{HandedOn};
 
-use std::io::{Error, ErrorKind, Read, Write};
+use std::io::{Error, ErrorKind, Read, Result, Write};
 use std::str;
 
 // How often a read is tried that a signal interrupts each time.
@@ -17,71 +17,40 @@ const WORDS: usize = 256;
 // What stands before that number.
 const NUMBER: &str = " (os error ";
 
-// What reading gave: so many bytes, or a read that failed, and why.
-#[derive(Clone, Copy)]
-pub enum Reading {
-    Bytes(usize),
-    Failed(Error),
-}
-
-// What writing gave: so many bytes handed on, or a write that failed, and why.
-#[derive(Clone, Copy)]
-pub enum Writing {
-    Bytes(usize),
-    Failed(Error),
-}
-
 // One read into the room; no bytes are the end of the input. A read that a signal interrupted, before it gave a byte, is tried again.
-fn read_some(input: &mut impl Read, room: &mut [u8]) -> Reading
+fn read_some(input: &mut impl Read, room: &mut [u8]) -> Result<usize>
     ensures { Within result room.new }
 {
-    let mut tries = TRIES;
-    loop {
+    for _ in 1..TRIES {
         match input.read(room) {
-            Ok(got) => return Reading::Bytes(got),
-            Err(error) => {
-                tries -= 1;
-                if tries == 0 || error.kind() != ErrorKind::Interrupted {
-                    return Reading::Failed(error);
-                }
-            }
+            Err(error) if error.kind() == ErrorKind::Interrupted => {}
+            got => return got,
         }
     }
+    input.read(room)
 }
 
 // Reads until the room is full, the input ends or a read fails.
-pub fn read_text(input: &mut impl Read, room: &mut [u8]) -> Reading
+pub fn read_text(input: &mut impl Read, room: &mut [u8]) -> Result<usize>
     ensures { Within result room.new }
 {
     let mut length: usize = 0;
     while length < room.len() {
-        let got = read_some(input, &mut room[length..]);
-        let Reading::Bytes(more) = got else {
-            return got;
-        };
+        let more = read_some(input, &mut room[length..])?;
         if more == 0 {
-            return Reading::Bytes(length);
+            return Ok(length);
         }
         length += more;
     }
-    Reading::Bytes(length)
+    Ok(length)
 }
 
-// Writes a whole text to a file that is open.
-pub fn write_to(file: &impl Print, text: &[u8]) -> Writing
+// Writes a whole text to a file that is open, standard output too.
+pub fn write_to(file: &impl Print, text: &[u8]) -> Result<usize>
     ensures { HandedOn result text.now }
 {
-    match file.write_all(text) {
-        Ok(()) => Writing::Bytes(text.len()),
-        Err(error) => Writing::Failed(error),
-    }
-}
-
-// Writes a whole text to standard output.
-pub fn write_text(rt: &impl Print, text: &[u8]) -> Writing
-    ensures { HandedOn result text.now }
-{
-    write_to(rt, text)
+    file.write_all(text)?;
+    Ok(text.len())
 }
 
 // Writes a line to standard error: what failed, as the caller names it, a colon and the system's words for the error.

@@ -7,4 +7,4 @@ use Rattle.fair.proofs.write_printout.Goals as goal
 
 pub returns : goal.returns
 unfolding ids
-returns g c = subst (HandedOn _) (c.print-written.ensures.told (search rules)) c.write_text.ensures
+returns g c = subst (HandedOn _) (c.print-written.ensures.told (search rules)) c.write_to.ensures

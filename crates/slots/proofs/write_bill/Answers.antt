@@ -8,4 +8,4 @@ use Rattle.slots.proofs.write_bill.Goals as goal
 
 pub returns : goal.returns
 unfolding bill_room ids
-returns g c = subst (HandedOn _) (c.bill-written.ensures.told (search rules)) c.write_text.ensures
+returns g c = subst (HandedOn _) (c.bill-written.ensures.told (search rules)) c.write_to.ensures

@@ -5,10 +5,10 @@ use Rattle.tables.specs.Tables.{tables}
 use Rattle.slots.proofs.PiecesCounted.{Counted}
 use Rattle.slots.proofs.write_pieces.Given as goal
 
-abbrev pub invariant-loop-error : goal.invariant-loop-error
-invariant-loop-error g l =
+abbrev pub invariant-loop-out : goal.invariant-loop-out
+invariant-loop-out g l =
     (length l.out ≡ length l.fn.out)
     × Counted l.audience l.text l.out l.control (tables l.terms l.stocks l.handles l.lengths l.links l.counts) l.at l.written l.total
 
-abbrev pub decreases-loop-error : goal.decreases-loop-error
-decreases-loop-error g l = length l.text - l.at
+abbrev pub decreases-loop-out : goal.decreases-loop-out
+decreases-loop-out g l = length l.text - l.at
