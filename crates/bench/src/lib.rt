@@ -6,10 +6,8 @@ ghost use Rattle.definitions.specs.Sizes.{ids};
 ghost use Rattle.tables.specs.Tables.{tables};
 ghost use Rattle.tables.specs.Invariant.{Valid};
 
-use counts::COUNTS;
 use definitions::{Answer, IDS, Outcome, Packet};
-use order::LINKS;
-use tables::{Control, STOCKS, STORE, TERMS};
+use tables::{Control, Tables};
 
 // The longest list of demands.
 const LISTED: usize = IDS as usize;
@@ -86,9 +84,7 @@ fn join_ids(
     let mut at = control;
     let mut id = first;
     while id < end {
-        let r = settings::join(
-            at, tables, id, kind, rate, burst,
-        );
+        let r = settings::join(at, tables, id, kind, rate, burst);
         at = r.control;
         id += 1;
     }
@@ -96,12 +92,7 @@ fn join_ids(
 }
 
 // Puts some packets into one queue.
-fn fill_queue(
-    control: Control,
-    tables: &mut Tables,
-    id: u32,
-    each: u32,
-) -> Control
+fn fill_queue(control: Control, tables: &mut Tables, id: u32, each: u32) -> Control
     requires { Valid control tables.old }
     ensures { Valid result tables.new }
 {
@@ -112,9 +103,7 @@ fn fill_queue(
             handle: id as u64,
             length: 64,
         };
-        let r = traffic::arrive(
-            at, tables, id, packet,
-        );
+        let r = traffic::arrive(at, tables, id, packet);
         at = r.control;
         k += 1;
     }
@@ -122,12 +111,7 @@ fn fill_queue(
 }
 
 // Puts some packets into each queue, one client after the other.
-fn fill_queues(
-    control: Control,
-    tables: &mut Tables,
-    n: u32,
-    each: u32,
-) -> Control
+fn fill_queues(control: Control, tables: &mut Tables, n: u32, each: u32) -> Control
     requires { Valid control tables.old }
     ensures { Valid result tables.new }
 {
@@ -188,21 +172,13 @@ fn refused_round(
     let no_loader = beyond + k % 4;
     let right = packet(k, 64);
     let short = packet(k, 63);
-    let a = traffic::arrive(
-        control, tables, no_sender, right,
-    );
+    let a = traffic::arrive(control, tables, no_sender, right);
     let first = a.answer;
-    let b = traffic::load(
-        a.control, tables, no_loader, k,
-    );
+    let b = traffic::load(a.control, tables, no_loader, k);
     let second = b.answer;
-    let c = settings::join(
-        b.control, tables, id, 2, 1, 0,
-    );
+    let c = settings::join(b.control, tables, id, 2, 1, 0);
     let third = c.answer;
-    let d = traffic::arrive(
-        c.control, tables, other, short,
-    );
+    let d = traffic::arrive(c.control, tables, other, short);
     let fourth = d.answer;
     let last = d.control;
     Tally {
@@ -211,13 +187,7 @@ fn refused_round(
     }
 }
 
-fn refused_rounds(
-    control: Control,
-    tables: &mut Tables,
-    n: u32,
-    beyond: u32,
-    rounds: u32,
-) -> Tally
+fn refused_rounds(control: Control, tables: &mut Tables, n: u32, beyond: u32, rounds: u32) -> Tally
     requires { Valid control tables.old × (1 ≤ n)
         × (beyond ≤ 64) }
     ensures { Valid result.control
@@ -228,10 +198,7 @@ fn refused_rounds(
     let mut k: u32 = 0;
     while k < rounds {
         let other = next(id, n);
-        at = refused_round(
-            at.control, tables, id, other, beyond, k,
-            at.sum,
-        );
+        at = refused_round(at.control, tables, id, other, beyond, k, at.sum);
         id = other;
         k += 1;
     }
@@ -239,13 +206,7 @@ fn refused_rounds(
 }
 
 // One arrival and one tick.
-fn traffic_round(
-    control: Control,
-    tables: &mut Tables,
-    id: u32,
-    k: u32,
-    sum: u64,
-) -> Tally
+fn traffic_round(control: Control, tables: &mut Tables, id: u32, k: u32, sum: u64) -> Tally
     requires { Valid control tables.old }
     ensures { Valid result.control
         tables.new }
@@ -254,9 +215,7 @@ fn traffic_round(
         handle: k as u64,
         length: 64 + k % 1024,
     };
-    let a = traffic::arrive(
-        control, tables, id, packet,
-    );
+    let a = traffic::arrive(control, tables, id, packet);
     let first = a.answer;
     let ticked = slot::tick(a.control, tables);
     let b = ticked.answered;
@@ -283,9 +242,7 @@ pub fn traffic_rounds(
     let mut id = first;
     let mut k: u32 = 0;
     while k < rounds {
-        at = traffic_round(
-            at.control, tables, id, k, at.sum,
-        );
+        at = traffic_round(at.control, tables, id, k, at.sum);
         id = next(id, n);
         k += 1;
     }
@@ -327,26 +284,14 @@ fn stage_of(k: u32, n: u32, indifferents: u32, each: u32, rounds: u32) -> Stage
     }
 }
 
-pub fn run_stage(
-    control: Control,
-    tables: &mut Tables,
-    n: u32,
-    s: Stage,
-) -> Tally
+pub fn run_stage(control: Control, tables: &mut Tables, n: u32, s: Stage) -> Tally
     requires { Valid control tables.old × (s.from < s.to) }
     ensures { Valid result.control
         tables.new }
 {
-    let joined = join_ids(
-        control, tables, s.first, s.end, s.kind, s.rate,
-        s.burst,
-    );
-    let filled = fill_queues(
-        joined, tables, n, s.each,
-    );
-    traffic_rounds(
-        filled, tables, s.from, s.to, s.rounds,
-    )
+    let joined = join_ids(control, tables, s.first, s.end, s.kind, s.rate, s.burst);
+    let filled = fill_queues(joined, tables, n, s.each);
+    traffic_rounds(filled, tables, s.from, s.to, s.rounds)
 }
 
 // Both stages, in one loop: the compiler draws a function in where it has one caller.
@@ -367,9 +312,7 @@ fn run_stages(
     let mut k: u32 = 0;
     while k < 2 {
         let s = stage_of(k, n, indifferents, each, rounds);
-        at = run_stage(
-            at.control, tables, n, s,
-        );
+        at = run_stage(at.control, tables, n, s);
         k += 1;
     }
     at
@@ -406,13 +349,7 @@ pub fn bench_run(
     }
     let mut tables = Tables::filled(0);
     let shut = opening::unopened();
-    let opened = opening::open(
-        shut,
-        &mut tables,
-        1024,
-        discipline,
-        1,
-    );
+    let opened = opening::open(shut, &mut tables, 1024, discipline, 1);
     let begun = opened.control;
     let slots = mode == 0;
     let served = run_stages(
@@ -426,14 +363,7 @@ pub fn bench_run(
     if slots {
         return served.sum;
     }
-    refused_rounds(
-        served.control,
-        &mut tables,
-        n,
-        mode,
-        rounds,
-    )
-    .sum
+    refused_rounds(served.control, &mut tables, n, mode, rounds).sum
 }
 
 // All ids, by rising id.

@@ -13,9 +13,8 @@ ghost use Rattle.bill.specs.Billed.{bill_room, AllLines, Billed};
 use counts::COUNTS;
 use definitions::IDS;
 use grammar::TEXT_LIMIT;
-use order::LINKS;
 use printer::LINE_ROOM;
-use tables::{Control, STOCKS, STORE, TERMS};
+use tables::{Control, Tables};
 
 // The room for a line of every id.
 const BILL_ROOM: usize = IDS as usize * LINE_ROOM;
@@ -47,11 +46,7 @@ fn print_lines(out: &mut [u8], control: Control, counts: &[u64; COUNTS]) -> usiz
 
 // Writes the lines behind a text at the start of the buffer, and gives how many bytes they have. The tables may hold anything. Without
 // room for a line of every id nothing is done.
-pub fn bill(
-    text: &[u8],
-    out: &mut [u8],
-    tables: &mut Tables,
-) -> usize
+pub fn bill(text: &[u8], out: &mut [u8], tables: &mut Tables) -> usize
     ensures { Billed text.now out.old
         tables.old
         out.new result
@@ -64,5 +59,5 @@ pub fn bill(
     if text.len() > TEXT_LIMIT {
         return carried.written;
     }
-    print_lines(out, carried.control, counts)
+    print_lines(out, carried.control, &tables.counts)
 }

@@ -5,19 +5,13 @@
 ghost use Rattle.tables.specs.Tables.{tables};
 ghost use Rattle.carried.specs.CarriedOut.{CarriedOut};
 
-use counts::COUNTS;
 use grammar::{Audience, TEXT_LIMIT};
-use order::LINKS;
 use script::Progress;
-use tables::{STOCKS, STORE, TERMS};
+use tables::Tables;
 
 // Carries a script out from an unopened core on; the tables may hold anything. Each piece writes its answers over those before. Of a text
 // that is too long the one line is written at the start of the buffer, and without room for a line nothing is carried out.
-pub fn carry_out(
-    text: &[u8],
-    out: &mut [u8],
-    tables: &mut Tables,
-) -> Progress
+pub fn carry_out(text: &[u8], out: &mut [u8], tables: &mut Tables) -> Progress
     ensures { CarriedOut text.now out.new result
         tables.new }
 {
@@ -31,14 +25,7 @@ pub fn carry_out(
     let mut control = first.control;
     let mut at = first.next;
     while at < text.len() {
-        let piece = script::piece(
-            Audience::Caller,
-            text,
-            at,
-            out,
-            control,
-            tables,
-        );
+        let piece = script::piece(Audience::Caller, text, at, out, control, tables);
         control = piece.control;
         at = piece.next;
     }

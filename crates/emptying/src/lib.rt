@@ -7,10 +7,8 @@ ghost use Rattle.tables.specs.Tables.{tables};
 ghost use Rattle.tables.specs.Invariant.{Valid};
 
 use bench::{Stage, Tally};
-use counts::COUNTS;
 use definitions::{BURST_LIMIT, FIRST_COME, IDS, INDIFFERENT, PRIVATE, SHARES};
-use order::LINKS;
-use tables::{Control, STOCKS, STORE, TERMS};
+use tables::{Control, Tables};
 
 // The rates of the clients to be emptied, together.
 const OWN_RATES: u32 = 768;
@@ -74,25 +72,16 @@ fn own(plan: Plan) -> Stage
 }
 
 // An open core.
-fn begin(
-    tables: &mut Tables,
-) -> Control
+fn begin(tables: &mut Tables) -> Control
     ensures { Valid result tables.new }
 {
     let shut = opening::unopened();
-    let r = opening::open(
-        shut, tables, SHARES, FIRST_COME, 1,
-    );
+    let r = opening::open(shut, tables, SHARES, FIRST_COME, 1);
     r.control
 }
 
 // The clients below the end leave, one after the other.
-fn leave_ids(
-    control: Control,
-    tables: &mut Tables,
-    end: u32,
-    before: u64,
-) -> Tally
+fn leave_ids(control: Control, tables: &mut Tables, end: u32, before: u64) -> Tally
     requires { Valid control tables.old }
     ensures { Valid result.control
         tables.new }
@@ -111,13 +100,7 @@ fn leave_ids(
 }
 
 // They change to the new kind.
-fn change_ids(
-    control: Control,
-    tables: &mut Tables,
-    end: u32,
-    plan: Plan,
-    before: u64,
-) -> Tally
+fn change_ids(control: Control, tables: &mut Tables, end: u32, plan: Plan, before: u64) -> Tally
     requires { Valid control tables.old }
     ensures { Valid result.control
         tables.new }
@@ -126,9 +109,7 @@ fn change_ids(
     let mut sum = before;
     let mut id: u32 = 0;
     while id < end {
-        let r = settings::change(
-            at, tables, id, plan.to, plan.rate, plan.burst,
-        );
+        let r = settings::change(at, tables, id, plan.to, plan.rate, plan.burst);
         let answer = r.answer;
         at = r.control;
         sum = bench::add(sum, answer);
@@ -137,63 +118,42 @@ fn change_ids(
     Tally { control: at, sum }
 }
 
-fn empty_ids(
-    control: Control,
-    tables: &mut Tables,
-    end: u32,
-    plan: Plan,
-    sum: u64,
-) -> Tally
+fn empty_ids(control: Control, tables: &mut Tables, end: u32, plan: Plan, sum: u64) -> Tally
     requires { Valid control tables.old }
     ensures { Valid result.control
         tables.new }
 {
     if plan.to == 0 {
-        return leave_ids(
-            control, tables, end, sum,
-        );
+        return leave_ids(control, tables, end, sum);
     }
-    change_ids(
-        control, tables, end, plan, sum,
-    )
+    change_ids(control, tables, end, plan, sum)
 }
 
 // Rounds in which the tables are put back as they were and the clients are emptied.
-fn empty_rounds(
-    control: Control,
-    tables: &mut Tables,
-    end: u32,
-    plan: Plan,
-    rounds: u32,
-) -> Tally
+fn empty_rounds(control: Control, tables: &mut Tables, end: u32, plan: Plan, rounds: u32) -> Tally
     requires { Valid control tables.old }
     ensures { Valid result.control
         tables.new }
 {
-    let kept_terms = *terms;
-    let kept_stocks = *stocks;
-    let kept_links = *links;
-    let kept_counts = *counts;
+    let kept_terms = tables.terms;
+    let kept_stocks = tables.stocks;
+    let kept_links = tables.links;
+    let kept_counts = tables.counts;
     let mut at = Tally { control, sum: 0 };
     let mut k: u32 = 0;
     while k < rounds {
-        *terms = kept_terms;
-        *stocks = kept_stocks;
-        *links = kept_links;
-        *counts = kept_counts;
-        at = empty_ids(
-            control, tables, end, plan, at.sum,
-        );
+        tables.terms = kept_terms;
+        tables.stocks = kept_stocks;
+        tables.links = kept_links;
+        tables.counts = kept_counts;
+        at = empty_ids(control, tables, end, plan, at.sum);
         k += 1;
     }
     at
 }
 
 // The crowd and the clients to be emptied, on a fresh core.
-fn set_up(
-    tables: &mut Tables,
-    plan: Plan,
-) -> Tally
+fn set_up(tables: &mut Tables, plan: Plan) -> Tally
     requires { 1 ≤ plan.clients }
     ensures { Valid result.control
         tables.new }
@@ -201,31 +161,18 @@ fn set_up(
     let first = crowd(plan);
     let second = own(plan);
     let begun = begin(tables);
-    let at = bench::run_stage(
-        begun, tables, IDS, first,
-    );
-    bench::run_stage(
-        at.control, tables, IDS, second,
-    )
+    let at = bench::run_stage(begun, tables, IDS, first);
+    bench::run_stage(at.control, tables, IDS, second)
 }
 
 // The rounds, and behind them an arrival for each client, with a tick: the answers tell who has room, and what was written is read.
-fn emptying(
-    tables: &mut Tables,
-    plan: Plan,
-    end: u32,
-    rounds: u32,
-) -> u64
+fn emptying(tables: &mut Tables, plan: Plan, end: u32, rounds: u32) -> u64
     requires { 1 ≤ plan.clients }
 {
     let n = plan.clients;
     let a = set_up(tables, plan);
-    let b = empty_rounds(
-        a.control, tables, end, plan, rounds,
-    );
-    let c = bench::traffic_rounds(
-        b.control, tables, 0, n, n,
-    );
+    let b = empty_rounds(a.control, tables, end, plan, rounds);
+    let c = bench::traffic_rounds(b.control, tables, 0, n, n);
     std::num::wrapping_add_u64(std::num::wrapping_add_u64(a.sum, b.sum), c.sum)
 }
 
@@ -252,19 +199,10 @@ pub fn bench_emptying(
         burst: burst_of(to),
     };
     let mut tables = Tables::filled(0);
-    emptying(
-        &mut tables,
-        plan,
-        end,
-        rounds,
-    )
+    emptying(&mut tables, plan, end, rounds)
 }
 
-fn open_rounds(
-    control: Control,
-    tables: &mut Tables,
-    rounds: u32,
-) -> Tally
+fn open_rounds(control: Control, tables: &mut Tables, rounds: u32) -> Tally
     requires { Valid control tables.old }
     ensures { Valid result.control
         tables.new }
@@ -273,13 +211,7 @@ fn open_rounds(
     let mut sum: u64 = 0;
     let mut k: u32 = 0;
     while k < rounds {
-        let r = opening::open(
-            at,
-            tables,
-            SHARES,
-            FIRST_COME,
-            k + 1,
-        );
+        let r = opening::open(at, tables, SHARES, FIRST_COME, k + 1);
         let answer = r.answer;
         at = r.control;
         sum = bench::add(sum, answer);
@@ -289,10 +221,7 @@ fn open_rounds(
 }
 
 // The opens, and at last some calls that read what they wrote.
-fn opens(
-    tables: &mut Tables,
-    rounds: u32,
-) -> u64 {
+fn opens(tables: &mut Tables, rounds: u32) -> u64 {
     let last = Stage {
         first: 0,
         end: IDS,
@@ -305,20 +234,13 @@ fn opens(
         rounds: IDS,
     };
     let begun = begin(tables);
-    let a = open_rounds(
-        begun, tables, rounds,
-    );
-    let b = bench::run_stage(
-        a.control, tables, IDS, last,
-    );
+    let a = open_rounds(begun, tables, rounds);
+    let b = bench::run_stage(a.control, tables, IDS, last);
     std::num::wrapping_add_u64(a.sum, b.sum)
 }
 
 // Rounds of opening anew.
 pub fn bench_opening(rounds: u32) -> u64 {
     let mut tables = Tables::filled(0);
-    opens(
-        &mut tables,
-        rounds,
-    )
+    opens(&mut tables, rounds)
 }

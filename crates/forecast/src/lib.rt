@@ -10,10 +10,9 @@ ghost use Rattle.tables.specs.Meaning.{core_of};
 ghost use Rattle.tables.specs.Invariant.{Valid};
 ghost use Rattle.forecast.specs.Told.{Told};
 
-use counts::COUNTS;
+use definitions::Refusal;
 use grammar::TEXT_LIMIT;
-use order::LINKS;
-use tables::{Control, STOCKS, STORE, TERMS, UNOPENED};
+use tables::{Control, STOCKS, TERMS, Tables};
 
 // Writes the line of a core.
 fn print_line(
@@ -29,7 +28,7 @@ fn print_line(
         out.old 0 out.new result }
 {
     if !control.opened {
-        return printer::print_refused(out, 0, UNOPENED);
+        return printer::print_refused(out, 0, Refusal::Unopened.number());
     }
     let picks = guarantee::sure(control, terms, stocks, ticks);
     printer::print_sure(out, 0, ticks, picks)
@@ -37,12 +36,7 @@ fn print_line(
 
 // Writes the line behind a text at the start of the buffer, and gives how many bytes it has. The tables may hold anything.
 // Without room for a line no piece would go on, so nothing is done.
-pub fn forecast(
-    text: &[u8],
-    ticks: u32,
-    out: &mut [u8],
-    tables: &mut Tables,
-) -> usize
+pub fn forecast(text: &[u8], ticks: u32, out: &mut [u8], tables: &mut Tables) -> usize
     ensures { Told text.now ticks out.old
         tables.old
         out.new result
@@ -55,5 +49,5 @@ pub fn forecast(
     if text.len() > TEXT_LIMIT {
         return carried.written;
     }
-    print_line(out, carried.control, terms, stocks, ticks)
+    print_line(out, carried.control, &tables.terms, &tables.stocks, ticks)
 }

@@ -12,13 +12,11 @@ ghost use Rattle.greedy.specs.Phases.{refused_with, offered, joined, paused, tic
 ghost use Rattle.greedy.specs.GreedyRun.{level_in};
 ghost use Rattle.greedy.specs.Stands.{Begins, Goes, Tells};
 
-use counts::COUNTS;
 use definitions::{Answer, INDIFFERENT, SHARES};
 use grammar::Call;
-use order::LINKS;
 use runs::Progress;
 use std::io::Result;
-use tables::{Control, LEVEL, STOCKS, STORE, TERMS};
+use tables::{Control, LEVEL, TERMS, Tables};
 use tally::BLOCK;
 
 // The client that offers.
@@ -234,10 +232,7 @@ fn begin(seed: u32) -> GreedyProgress
 }
 
 // Makes one call.
-fn call_once(
-    at: GreedyProgress,
-    tables: &mut Tables,
-) -> GreedyProgress
+fn call_once(at: GreedyProgress, tables: &mut Tables) -> GreedyProgress
     requires { Valid at.progress.control tables.old }
     ensures { Goes 1 at
         tables.old result
@@ -248,12 +243,10 @@ fn call_once(
     let draws = runs::draw(progress.maker);
     let call = call_in(sofar.phase, draws.a, draws.b, draws.c, draws.d);
     let maker = draws.maker;
-    let taken = runs::take(
-        progress, tables, maker, call,
-    );
+    let taken = runs::take(progress, tables, maker, call);
     let next = taken.progress;
     let answer = taken.answer;
-    let level = level_of(next.control, terms);
+    let level = level_of(next.control, &tables.terms);
     GreedyProgress {
         progress: next,
         counts: turn(sofar, answer, draws.c, draws.d, level),
@@ -261,11 +254,7 @@ fn call_once(
 }
 
 // Makes so many calls.
-fn calls(
-    progress: GreedyProgress,
-    tables: &mut Tables,
-    count: u32,
-) -> GreedyProgress
+fn calls(progress: GreedyProgress, tables: &mut Tables, count: u32) -> GreedyProgress
     requires { Valid progress.progress.control tables.old }
     ensures { Goes count progress
         tables.old result
@@ -303,12 +292,7 @@ fn tell(
 }
 
 // So many blocks from a seed, with a line after each. It ends at a line that could not be written.
-fn blocks(
-    rt: &(impl Print + Eprint),
-    seed: u32,
-    count: u32,
-    tables: &mut Tables,
-) {
+fn blocks(rt: &(impl Print + Eprint), seed: u32, count: u32, tables: &mut Tables) {
     let mut at = begin(seed);
     let mut done: u32 = 0;
     while done < count {
@@ -330,12 +314,7 @@ fn blocks(
 // A run on tables of its own.
 fn run(rt: &(impl Print + Eprint), seed: u32, count: u32) {
     let mut tables = Tables::filled(0);
-    blocks(
-        rt,
-        seed,
-        count,
-        &mut tables,
-    );
+    blocks(rt, seed, count, &mut tables);
 }
 
 fn usage(rt: &impl Eprint) {

@@ -5,9 +5,7 @@
 ghost use Rattle.std.specs.Prelude.{◌≡◌, ◌*◌};
 ghost use Rattle.runs.specs.LongRun.{block, after};
 
-use counts::COUNTS;
-use order::LINKS;
-use tables::{STOCKS, STORE, TERMS};
+use tables::Tables;
 use tally::BLOCK;
 
 // The program's name, the seed and the number of blocks.
@@ -21,12 +19,7 @@ fn tell(rt: &(impl Print + Eprint), seed: u32, blocks: u32, check: u32) -> bool
 }
 
 // So many blocks from a seed, with a line after each. It ends at a line that could not be written.
-fn blocks(
-    rt: &(impl Print + Eprint),
-    seed: u32,
-    count: u32,
-    tables: &mut Tables,
-) {
+fn blocks(rt: &(impl Print + Eprint), seed: u32, count: u32, tables: &mut Tables) {
     let mut at = runs::begin(seed);
     let mut done: u32 = 0;
     while done < count {
@@ -41,12 +34,7 @@ fn blocks(
 // A run on tables of its own.
 fn run(rt: &(impl Print + Eprint), seed: u32, count: u32) {
     let mut tables = Tables::filled(0);
-    blocks(
-        rt,
-        seed,
-        count,
-        &mut tables,
-    );
+    blocks(rt, seed, count, &mut tables);
 }
 
 fn usage(rt: &impl Eprint) {

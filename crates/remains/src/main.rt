@@ -12,11 +12,10 @@ ghost use Rattle.runs.specs.Stands.{Goes};
 ghost use Rattle.remains.specs.Remains.{waits_at, overwritten_at, overwritten_unused};
 ghost use Rattle.remains.specs.Started.{stretch, started, Starts};
 
-use counts::COUNTS;
 use definitions::PLACES;
-use order::{END, LINKS};
+use order::END;
 use runs::Progress;
-use tables::{COUNT, HEAD, STOCKS, STORE, TERMS};
+use tables::{COUNT, HEAD, STOCKS, STORE, Tables};
 use tally::BLOCK;
 
 // How many calls are made between two overwritings, and how many such stretches a block has.
@@ -86,29 +85,25 @@ fn overwrite_unused(
 }
 
 // Makes a stretch of calls, and overwrites what they left where no packet waits.
-fn stretch(
-    progress: Progress,
-    tables: &mut Tables,
-    number: u32,
-) -> Progress
+fn stretch(progress: Progress, tables: &mut Tables, number: u32) -> Progress
     requires { Valid progress.control tables.old }
     ensures { Goes stretch progress
         tables.old result
         tables.new }
 {
-    let at = runs::calls(
-        progress, tables, STRETCH,
+    let at = runs::calls(progress, tables, STRETCH);
+    overwrite_unused(
+        &tables.stocks,
+        &mut tables.handles,
+        &mut tables.lengths,
+        number as u64,
+        lower_half(number),
     );
-    overwrite_unused(stocks, handles, lengths, number as u64, lower_half(number));
     at
 }
 
 // Makes the calls of a block.
-fn block(
-    progress: Progress,
-    tables: &mut Tables,
-    number: u32,
-) -> Progress
+fn block(progress: Progress, tables: &mut Tables, number: u32) -> Progress
     requires { Valid progress.control tables.old }
     ensures { Goes block progress
         tables.old result
@@ -124,11 +119,7 @@ fn block(
 }
 
 // Where a run starts: on an unopened core, or on the one that a block of calls from an earlier seed left.
-fn start(
-    earlier: u32,
-    seed: u32,
-    tables: &mut Tables,
-) -> Progress
+fn start(earlier: u32, seed: u32, tables: &mut Tables) -> Progress
     ensures { Starts earlier seed result
         tables.new }
 {
@@ -159,9 +150,7 @@ fn blocks(
     tables: &mut Tables,
     number: u32,
 ) {
-    let mut at = start(
-        earlier, seed, tables,
-    );
+    let mut at = start(earlier, seed, tables);
     let mut done: u32 = 0;
     while done < count {
         at = block(at, tables, number);
@@ -174,20 +163,8 @@ fn blocks(
 
 // A run on tables of its own, which hold a number throughout.
 fn run(rt: &(impl Print + Eprint), seed: u32, count: u32, number: u32, earlier: u32) {
-    let mut terms: [u32; TERMS] = [number; TERMS];
-    let mut stocks: [u32; STOCKS] = [number; STOCKS];
-    let mut handles: [u64; STORE] = [number as u64; STORE];
-    let mut lengths: [u16; STORE] = [lower_half(number); STORE];
-    let mut links: [u32; LINKS] = [number; LINKS];
-    let mut counts: [u64; COUNTS] = [number as u64; COUNTS];
-    blocks(
-        rt,
-        earlier,
-        seed,
-        count,
-        &mut tables,
-        number,
-    );
+    let mut tables = Tables::filled(number);
+    blocks(rt, earlier, seed, count, &mut tables, number);
 }
 
 fn usage(rt: &impl Eprint) {

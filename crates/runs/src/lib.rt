@@ -8,12 +8,10 @@ ghost use Rattle.runs.specs.Calls.{by_upper, id_of, rate_of, burst_of, packet_of
 ghost use Rattle.runs.specs.Check.{mix, check_with};
 ghost use Rattle.runs.specs.Stands.{Begins, Drawn, Takes, Goes};
 
-use counts::COUNTS;
 use definitions::{Answer, INDIFFERENT, Outcome, Packet};
 use generator::Generator;
 use grammar::Call;
-use order::LINKS;
-use tables::{Control, STOCKS, STORE, TERMS};
+use tables::{Control, Tables};
 
 // One more than the largest number of 32 bits. A handle is made of two draws, and gives the check two words.
 const WORD: u64 = 4294967296;
@@ -234,22 +232,13 @@ pub fn begin(seed: u32) -> Progress
 }
 
 // Carries a call out, and mixes its answer into the check. The maker is as the call's draws have left it.
-pub fn take(
-    progress: Progress,
-    tables: &mut Tables,
-    maker: Maker,
-    call: Call,
-) -> Taken
+pub fn take(progress: Progress, tables: &mut Tables, maker: Maker, call: Call) -> Taken
     requires { Valid progress.control tables.old }
     ensures { Takes call maker progress
         tables.old result
         tables.new }
 {
-    let answered = script::perform(
-        progress.control,
-        tables,
-        call,
-    );
+    let answered = script::perform(progress.control, tables, call);
     let control = answered.control;
     let answer = answered.answer;
     let next = Progress {
@@ -264,10 +253,7 @@ pub fn take(
 }
 
 // Makes one call.
-fn call_once(
-    progress: Progress,
-    tables: &mut Tables,
-) -> Progress
+fn call_once(progress: Progress, tables: &mut Tables) -> Progress
     requires { Valid progress.control tables.old }
     ensures { Goes 1 progress
         tables.old result
@@ -277,18 +263,12 @@ fn call_once(
     let quiet = progress.maker.quiet;
     let call = call_of(quiet, k_of(draws.a), draws.b, draws.c, draws.d);
     let maker = draws.maker;
-    let taken = take(
-        progress, tables, maker, call,
-    );
+    let taken = take(progress, tables, maker, call);
     taken.progress
 }
 
 // Makes so many calls.
-pub fn calls(
-    progress: Progress,
-    tables: &mut Tables,
-    count: u32,
-) -> Progress
+pub fn calls(progress: Progress, tables: &mut Tables, count: u32) -> Progress
     requires { Valid progress.control tables.old }
     ensures { Goes count progress
         tables.old result

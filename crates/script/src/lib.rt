@@ -16,13 +16,11 @@ ghost use Rattle.script.specs.UnreadLine.{unread_number};
 ghost use Rattle.script.specs.Shown.{PerformedCall, unread_for, note_for, call_for};
 ghost use Rattle.script.specs.Pieces.{Walked, Piece, Start};
 
-use counts::COUNTS;
 use definitions::{Answer, Note};
 use generator::Generator;
 use grammar::{Audience, Call, Line, TEXT_LIMIT};
-use order::LINKS;
 use slot::Ticked;
-use tables::{Answered, Control, STOCKS, STORE, TERMS};
+use tables::{Answered, Control, Tables};
 
 // What bytes that are no form are answered with, and a text that is too long.
 const NO_FORM: u32 = 16;
@@ -48,11 +46,7 @@ fn undrawn(answered: Answered, generator: Generator) -> Ticked
 }
 
 // Carries a call out, and gives beside its answer what a tick drew.
-fn perform_told(
-    control: Control,
-    tables: &mut Tables,
-    call: Call,
-) -> Ticked
+fn perform_told(control: Control, tables: &mut Tables, call: Call) -> Ticked
     requires { Valid control tables.old }
     ensures { PerformedCall call control
         tables.old result
@@ -65,10 +59,7 @@ fn perform_told(
             discipline,
             seed,
         } => undrawn(
-            opening::open(
-                control, tables, threshold, discipline,
-                seed,
-            ),
+            opening::open(control, tables, threshold, discipline, seed),
             generator,
         ),
         Call::Join {
@@ -77,9 +68,7 @@ fn perform_told(
             rate,
             burst,
         } => undrawn(
-            settings::join(
-                control, tables, id, kind, rate, burst,
-            ),
+            settings::join(control, tables, id, kind, rate, burst),
             generator,
         ),
         Call::Change {
@@ -88,25 +77,16 @@ fn perform_told(
             rate,
             burst,
         } => undrawn(
-            settings::change(
-                control, tables, id, kind, rate, burst,
-            ),
+            settings::change(control, tables, id, kind, rate, burst),
             generator,
         ),
-        Call::Leave { id } => undrawn(
-            settings::leave(control, tables, id),
-            generator,
-        ),
+        Call::Leave { id } => undrawn(settings::leave(control, tables, id), generator),
         Call::Load { id, dummies } => undrawn(
-            traffic::load(
-                control, tables, id, dummies,
-            ),
+            traffic::load(control, tables, id, dummies),
             generator,
         ),
         Call::Arrive { id, packet } => undrawn(
-            traffic::arrive(
-                control, tables, id, packet,
-            ),
+            traffic::arrive(control, tables, id, packet),
             generator,
         ),
         Call::Tick => slot::tick(control, tables),
@@ -114,19 +94,13 @@ fn perform_told(
 }
 
 // Carries a call out.
-pub fn perform(
-    control: Control,
-    tables: &mut Tables,
-    call: Call,
-) -> Answered
+pub fn perform(control: Control, tables: &mut Tables, call: Call) -> Answered
     requires { Valid control tables.old }
     ensures { Promised (event_of call) control
         tables.old result
         tables.new }
 {
-    let performed = perform_told(
-        control, tables, call,
-    );
+    let performed = perform_told(control, tables, call);
     performed.answered
 }
 
@@ -232,9 +206,7 @@ fn line(
         };
     };
     let ticked = is_tick(call);
-    let performed = perform_told(
-        control, tables, call,
-    );
+    let performed = perform_told(control, tables, call);
     let answered = performed.answered;
     let answer = answered.answer;
     let left = answered.control;
@@ -295,9 +267,7 @@ pub fn piece(
     let mut place = at;
     let mut written: usize = 0;
     while goes_on(text, place, out.len(), written) {
-        let progress = line(
-            audience, text, place, out, written, core, tables,
-        );
+        let progress = line(audience, text, place, out, written, core, tables);
         core = progress.control;
         place = progress.next;
         written = progress.written;

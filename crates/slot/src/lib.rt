@@ -20,11 +20,11 @@ ghost use Rattle.slot.specs.Sends.{Settled, popped, Unlinked, SomeSender, Spends
 ghost use Rattle.slot.specs.Slots.{SomeDue, Does};
 ghost use Rattle.slot.specs.Buckets.{Refillable, Refilled};
 
-use definitions::{Answer, FIRST_COME, IDS, LONGEST, Outcome, PLACES, Packet};
+use definitions::{Answer, FIRST_COME, IDS, LONGEST, Outcome, PLACES, Packet, Refusal};
 use draw::Sample;
 use generator::Generator;
 use order::LINKS;
-use tables::{Answered, BURST, COUNT, Control, HEAD, LEVEL, POOL, STOCKS, STORE, TERMS, Tables, UNOPENED};
+use tables::{Answered, BURST, COUNT, Control, HEAD, LEVEL, POOL, STOCKS, STORE, TERMS, Tables};
 
 // From how many indifferent ids on all ids are gone through.
 const DENSE: u32 = 12;
@@ -326,7 +326,7 @@ pub fn tick(
         tables.old)) }
 {
     if !control.opened {
-        let answered = tables::refused(control, UNOPENED);
+        let answered = tables::refused(control, Refusal::Unopened.number());
         return Ticked {
             answered,
             sample: draw::undrawn(control.generator),

@@ -13,13 +13,11 @@ ghost use Rattle.parser.specs.Words.{word_of};
 ghost use Rattle.slots.specs.Requests.{usage, alone, numbered, asked, requested};
 
 use arguments::ARGUMENT;
-use counts::COUNTS;
 use grammar::Audience;
-use order::LINKS;
 use script::Progress;
 use std::env::Env;
 use std::io::Error;
-use tables::{STOCKS, STORE, TERMS};
+use tables::Tables;
 
 // The program's name alone; with it an option; and with it an option and its number.
 const NO_ARGUMENTS: usize = 1;
@@ -60,9 +58,7 @@ fn write_pieces(
         if at >= text.len() {
             return Ok(total);
         }
-        let piece = script::piece(
-            audience, text, at, out, control, tables,
-        );
+        let piece = script::piece(audience, text, at, out, control, tables);
         control = piece.control;
         at = piece.next;
         written = piece.written;
@@ -77,14 +73,7 @@ fn write_printout(rt: &impl Print, audience: Audience, text: &[u8]) -> Result<us
     let mut tables = Tables::filled(0);
     let mut out = io::buffer();
     let first = script::start(text, &mut out);
-    write_pieces(
-        rt,
-        audience,
-        text,
-        &mut out,
-        first,
-        &mut tables,
-    )
+    write_pieces(rt, audience, text, &mut out, first, &mut tables)
 }
 
 // Writes the forecast behind a text, on tables of its own.
@@ -93,12 +82,7 @@ fn write_forecast(rt: &impl Print, text: &[u8], ticks: u32) -> Result<usize, Err
 {
     let mut tables = Tables::filled(0);
     let mut out = io::buffer();
-    let written = forecast::forecast(
-        text,
-        ticks,
-        &mut out,
-        &mut tables,
-    );
+    let written = forecast::forecast(text, ticks, &mut out, &mut tables);
     streams::write_to(rt, &out[..written])
 }
 
@@ -108,11 +92,7 @@ fn write_bill(rt: &impl Print, text: &[u8]) -> Result<usize, Error>
 {
     let mut tables = Tables::filled(0);
     let mut out = io::large_buffer();
-    let written = bill::bill(
-        text,
-        &mut out,
-        &mut tables,
-    );
+    let written = bill::bill(text, &mut out, &mut tables);
     streams::write_to(rt, &out[..written])
 }
 

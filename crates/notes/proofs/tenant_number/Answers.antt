@@ -6,7 +6,7 @@ use mathlib.Core.Bool.{cond, not}
 use Rattle.definitions.specs.Sizes.{ids}
 use Rattle.definitions.specs.Notes.{tenant_checks}
 use Rattle.marks.specs.Marks.{marked}
-use Rattle.tables.specs.Tables.{Tables}
+use Rattle.tables.specs.declared.Tables.{Tables}
 use Rattle.tables.specs.Meaning.{state_of, clients_of, client_at}
 use Rattle.tables.specs.Numbers.{first_failed, refusal}
 use Rattle.tables.proofs.MarkedKinds.{kind_indifferent}

@@ -94,7 +94,7 @@ returns-in-Load : tie.Need-returns-in-Load
 unfolding is_tick
 returns-in-Load c =
     rw c.in-Load.is
-    (record { promised = rw c.undrawn-in-Load.ensures c.load.ensures; sum = λ tick. true-false tick refl })
+    (record { promised = rw c.undrawn-in-Load.ensures c.load.ensures.0; sum = λ tick. true-false tick refl })
 
 returns-in-Arrive : tie.Need-returns-in-Arrive
 unfolding is_tick
