@@ -5,4 +5,5 @@ pub mod Kinds
 pub mod Clients
 pub mod Sums
 pub mod Rates
+pub mod Refused
 pub mod Rules

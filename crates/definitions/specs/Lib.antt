@@ -14,6 +14,7 @@ pub mod State
 pub mod Answers
 pub mod Checks
 pub mod Refusals
+pub mod ClientKinds
 -- the seven calls
 pub mod Event
 pub mod Calls

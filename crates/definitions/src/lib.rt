@@ -4,6 +4,7 @@
 #![tactic(auto)]
 
 ghost use Rattle.std.specs.Prelude.{◌≡◌};
+ghost use Rattle.definitions.specs.ClientKinds.{reads_kind};
 ghost use Rattle.definitions.specs.Refusals.{number_of};
 
 // The largest number of a call, and the largest handle.
@@ -119,6 +120,27 @@ impl Refusal {
             Refusal::Drained => 15,
             Refusal::Unopened => 19,
             Refusal::Unfair => 22,
+        }
+    }
+}
+
+// The kind of an active client.
+#[derive(Clone, Copy, PartialEq, Eq)]
+pub enum ClientKind {
+    Indifferent,
+    Private,
+}
+
+impl TryFrom<u32> for ClientKind {
+    type Error = Refusal;
+
+    ghost try_from_gives = { λ number r. reads_kind number r };
+
+    fn try_from(number: u32) -> Result<ClientKind, Refusal> {
+        match number {
+            INDIFFERENT => Ok(ClientKind::Indifferent),
+            PRIVATE => Ok(ClientKind::Private),
+            _ => Err(Refusal::Kind),
         }
     }
 }

@@ -5,16 +5,14 @@
 ghost use Rattle.std.specs.Prelude.{◌≡◌, unwrap_or};
 ghost use Rattle.definitions.specs.Sizes.{ids};
 ghost use Rattle.definitions.specs.Notes.{note_of, holder, tenant_checks, tenant_seen};
+ghost use Rattle.definitions.specs.Refusals.{number_in};
 ghost use Rattle.tables.specs.declared.Tables.{Tables};
 ghost use Rattle.tables.specs.Meaning.{core_of};
 ghost use Rattle.tables.specs.Numbers.{refusal};
 ghost use Rattle.notes.specs.ReasonLeft.{reason_left};
 
-use definitions::{Answer, Drawing, Note, Outcome};
+use definitions::{Answer, Drawing, Note, Outcome, Refusal};
 use tables::Control;
-
-// What a sheet of an indifferent client is refused with.
-const INDIFFERENT: u32 = 11;
 
 // By which draw a slot went, if there was one: from the control after it and the sum of the rates in the draw, 0 where there was none.
 pub fn reason(control: Control, sum: u64) -> Option<Drawing>
@@ -59,27 +57,25 @@ fn holder_of(answer: Answer) -> Option<u32>
     }
 }
 
-// The number that a tenant's sheet is refused with: 19, 4, 5, 11.
-fn tenant_number(control: Control, id: u32) -> u32
-    ensures { (t : Tables) → result ≡ refusal control t (λ s. tenant_checks s id) }
+// What a tenant's sheet is refused for: 19, 4, 5, 11.
+fn check_tenant(control: Control, id: u32) -> Result<(), Refusal>
+    ensures { (t : Tables) → number_in result ≡ refusal control t (λ s. tenant_checks s id) }
 {
-    let number = tables::active_number(control, id);
-    if number != 0 {
-        return number;
-    }
+    tables::check_active(control, id)?;
     if marks::has(control.indifferent, id) {
-        return INDIFFERENT;
+        return Err(Refusal::Indifferent);
     }
-    0
+    Ok(())
 }
 
 // What a tenant is told where a tick gave an answer for a reason; the control is the one before the tick. Refused: 19, 4, 5, 11.
 pub fn tenant(id: u32, control: Control, answer: Answer, reason: Option<Drawing>) -> Note
     ensures { (t : Tables) → result ≡ tenant_seen id (core_of control t) answer reason }
 {
-    let number = tenant_number(control, id);
-    if number != 0 {
-        return Note::Refusal { number };
+    if let Err(refusal) = check_tenant(control, id) {
+        return Note::Refusal {
+            number: refusal.number(),
+        };
     }
     let whole = operator(answer, reason);
     let Some(holder) = holder_of(answer) else {

@@ -5,6 +5,7 @@ ghost use Rattle.std.specs.Prelude.{◌≡◌};
 ghost use Rattle.definitions.specs.Event.{Open};
 ghost use Rattle.definitions.specs.State.{unopened};
 ghost use Rattle.definitions.specs.Checks.{open_checks};
+ghost use Rattle.definitions.specs.Refusals.{number_in};
 ghost use Rattle.tables.specs.declared.Tables.{Tables};
 ghost use Rattle.tables.specs.Meaning.{core_of};
 ghost use Rattle.tables.specs.Invariant.{Valid};
@@ -12,7 +13,7 @@ ghost use Rattle.tables.specs.Numbers.{first_failed};
 ghost use Rattle.tables.specs.Places.{Promised};
 
 use counts::COUNTS;
-use definitions::{SHARES, WEIGHTED_DRAW};
+use definitions::{Refusal, SHARES, WEIGHTED_DRAW};
 use generator::Generator;
 use order::{END, LINKS};
 use tables::{Answered, Control, STOCKS, STORE, TERMS, Tables};
@@ -49,23 +50,20 @@ fn control_of(opened: bool, threshold: u32, discipline: u32, seed: u32) -> Contr
     }
 }
 
-// The number that an open is refused with: 1, 2, 3.
-fn open_number(threshold: u32, discipline: u32, seed: u32) -> u32
-    ensures { result ≡ first_failed (open_checks threshold discipline seed) }
+// What an open is refused for: 1, 2, 3.
+fn check_open(threshold: u32, discipline: u32, seed: u32) -> Result<(), Refusal>
+    ensures { number_in result ≡ first_failed (open_checks threshold discipline seed) }
 {
-    if threshold < 1 {
-        return 1;
-    }
-    if SHARES < threshold {
-        return 1;
+    if !(1..=SHARES).contains(&threshold) {
+        return Err(Refusal::Threshold);
     }
     if WEIGHTED_DRAW < discipline {
-        return 2;
+        return Err(Refusal::Discipline);
     }
     if seed == 0 {
-        return 3;
+        return Err(Refusal::Seed);
     }
-    0
+    Ok(())
 }
 
 // Gives a core without clients, in place of any earlier one (paper 01, "Open"). Refused: 1, 2, 3.
@@ -79,9 +77,8 @@ pub fn open(
     requires { Valid control tables.old }
     ensures { Promised (Open threshold discipline seed) control tables.old result tables.new }
 {
-    let number = open_number(threshold, discipline, seed);
-    if number != 0 {
-        return tables::refused(control, number);
+    if let Err(refusal) = check_open(threshold, discipline, seed) {
+        return tables::refused(control, refusal.number());
     }
     tables.terms = [0; TERMS];
     tables.stocks = [0; STOCKS];

@@ -10,7 +10,7 @@ use borrow.Author.Tests.{ltb-true}
 use Rattle.definitions.specs.Event.{Leave}
 use Rattle.definitions.specs.declared.Answer.TheVariants.{Accepted, Refused}
 use Rattle.definitions.specs.Sizes.{ids, indifferent_kind, private_kind}
-use Rattle.definitions.specs.Client.{Client, nobody, kind_of, joining}
+use Rattle.definitions.specs.Client.{absent, Client, nobody, kind_of, joining}
 use Rattle.definitions.specs.Counts.{anew, entry_of_accepted, entry_of_refused}
 use Rattle.definitions.specs.State.{updated, put, emptied}
 use Rattle.definitions.specs.Checks.{active_checks, leave_checks}
@@ -75,8 +75,9 @@ module _ (c : Control) (t : Tables) (valid : Valid c t) (id : ℕ) where
       pub leave_room : Room b t.terms id 0
       leave_room = room c t sound id leave_below b bare.rest 0 (omega arith)
 
-      module _ (d : Control) (cast : Recast (with_rates b (rates_after b t.terms id 0)) d id (kind_of 0)) where
+      module _ (d : Control) (cast : Recast (with_rates b (rates_after b t.terms id 0)) d id absent) where
         placement : Placement c t id 0 0 0 b stocks links d
+        unfolding kind_of indifferent_kind private_kind
         placement = record {
           sound = sound;
           below = leave_below;

@@ -5,7 +5,7 @@ use mathlib.Core.Bool.{Bool, true, false, cond, not, ◌&&◌, ◌||◌, and-tru
 use lib.Dec.{eqb, ltb}
 use borrow.Author.Tests.{lt-ltb, ne_eqb}
 use Rattle.definitions.specs.Sizes.{ids}
-use Rattle.definitions.specs.Client.{Kind, absent, indifferent, private, is_active, is_indifferent, is_private}
+use Rattle.definitions.specs.Client.{Kind, absent, indifferent, private, is_active, is_indifferent, is_private, same_kind}
 use Rattle.definitions.proofs.Laws.Tests.{true-false, eqb_same}
 use Rattle.marks.specs.Marks.{marked}
 use Rattle.tables.specs.declared.Control.{Control}
@@ -37,14 +37,13 @@ recast_kind c d id kind k = rw (k.indifferent.own, k.private.own) (go kind)
     go indifferent = refl
     go private = refl
 
--- an active id without the mark of the one kind is of the other
-pub other_kind : (c : Control) (id : ℕ)
-    → marked c.indifferent id ≡ false
-    → is_active (kind_at c id) ≡ true
-    → kind_at c id ≡ private
-unfolding kind_at
-other_kind c id none active = rw none (go (marked c.private id) (rw none at active))
-  where
-    go : (b : Bool) → is_active (cond b private absent) ≡ true → cond b private absent ≡ private
-    go true e = refl
-    go false e = true-false e refl
+-- whether a kind is the one or, of an active client, the other
+pub same_kind-indifferent : (k : Kind) → same_kind k indifferent ≡ is_indifferent k
+same_kind-indifferent absent = refl
+same_kind-indifferent indifferent = refl
+same_kind-indifferent private = refl
+
+pub same_kind-private : (k : Kind) → is_active k ≡ true → same_kind k private ≡ not (is_indifferent k)
+same_kind-private absent active = true-false active refl
+same_kind-private indifferent active = refl
+same_kind-private private active = refl

@@ -2,15 +2,17 @@
 // leave those of nobody: change and leave are the one and then the other. Only a change that keeps the kind keeps the client.
 #![tactic(auto)]
 
-ghost use Rattle.std.specs.Prelude.{◌≡◌, true, List, ℕ, ◌+◌, ◌-◌, ◌^◌, ◌≤◌, ◌<◌, min};
+ghost use Rattle.std.specs.Prelude.{◌≡◌, true, List, ℕ, ◌+◌, ◌-◌, ◌^◌, ◌≤◌, ◌<◌, Some, IfOk};
 ghost use Rattle.definitions.specs.Event.{Join, Change, Leave};
 ghost use Rattle.definitions.specs.Sizes.{ids, places, burst_limit};
-ghost use Rattle.definitions.specs.Client.{kind_of, is_active, same_kind};
-ghost use Rattle.definitions.specs.Checks.{within, burst_fits, term_checks, join_checks, change_checks};
+ghost use Rattle.definitions.specs.Client.{is_active, same_kind};
+ghost use Rattle.definitions.specs.ClientKinds.{type_of, kind_in};
+ghost use Rattle.definitions.specs.Checks.{burst_fits, term_checks, join_checks, change_checks};
+ghost use Rattle.definitions.specs.Refusals.{number_in};
 ghost use Rattle.order.specs.Order.{Sound, Ordered};
 ghost use Rattle.order.specs.Owner.{places_of};
 ghost use Rattle.tables.specs.declared.Tables.{Tables};
-ghost use Rattle.tables.specs.Tables.{tables, rate_at, count_at, ring};
+ghost use Rattle.tables.specs.Tables.{tables, count_at, ring};
 ghost use Rattle.tables.specs.Controls.{with_rates};
 ghost use Rattle.tables.specs.Meaning.{kind_at};
 ghost use Rattle.tables.specs.Invariant.{Valid};
@@ -19,15 +21,10 @@ ghost use Rattle.tables.specs.Places.{Promised};
 ghost use Rattle.settings.specs.Writes.{Room, Ready, with_terms, retuned_level, rates_after, with_bare};
 ghost use Rattle.settings.specs.Writes.{Remarked, Recast, Quiet, Withdrawn, Withdraws, Empties};
 
-use counts::{COUNTS, EMPTIED};
-use definitions::{BURST_LIMIT, IDS, INDIFFERENT, PLACES, PRIVATE, SHARES};
+use counts::EMPTIED;
+use definitions::{BURST_LIMIT, ClientKind, IDS, PLACES, Refusal, SHARES};
 use order::LINKS;
-use tables::{
-    Answered, BURST, COUNT, Control, HEAD, LEVEL, POOL, RATE, STOCKS, STORE, TERMS, Tables, UNOPENED,
-};
-
-// A client of neither kind, with rate and burst 0, is nobody.
-const NO_KIND: u32 = 0;
+use tables::{Answered, BURST, COUNT, Control, HEAD, LEVEL, POOL, RATE, STOCKS, TERMS, Tables};
 
 // A word with the mark of an id set or taken.
 fn set_mark(word: u64, id: u32, on: bool) -> u64
@@ -35,19 +32,28 @@ fn set_mark(word: u64, id: u32, on: bool) -> u64
     ensures { Remarked word result id on }
 {
     if on {
-        return marks::mark(word, id);
+        marks::mark(word, id)
+    } else {
+        marks::unmark(word, id)
     }
-    marks::unmark(word, id)
 }
 
-// The control with the marks of an id's kind anew.
-fn recast(control: Control, id: u32, kind: u32) -> Control
+// The control with the marks of an id's kind anew, if it has one.
+fn recast(control: Control, id: u32, kind: Option<ClientKind>) -> Control
     requires { id < ids }
-    ensures { Recast control result id (kind_of kind) }
+    ensures { Recast control result id (kind_in kind) }
 {
     let mut after = control;
-    after.indifferent = set_mark(control.indifferent, id, kind == INDIFFERENT);
-    after.private = set_mark(control.private, id, kind == PRIVATE);
+    after.indifferent = set_mark(
+        control.indifferent,
+        id,
+        matches!(kind, Some(ClientKind::Indifferent)),
+    );
+    after.private = set_mark(
+        control.private,
+        id,
+        matches!(kind, Some(ClientKind::Private)),
+    );
     after
 }
 
@@ -72,28 +78,22 @@ fn set_terms(terms: &mut [u32; TERMS], id: u32, rate: u32, burst: u32, level: u3
 }
 
 // Gives an id the terms of a new client, in the place of any that it had: the marks of the kind, and an empty bucket.
-// What the id has to send is emptied before.
+// Without a kind, and with rate and burst 0, it is nobody. What the id has to send is emptied before.
 fn place_client(
     control: Control,
     terms: &mut [u32; TERMS],
     id: u32,
-    kind: u32,
+    kind: Option<ClientKind>,
     rate: u32,
     burst: u32,
 ) -> Control
     requires { Room control terms.old id rate }
-    ensures recast { Recast (with_rates control (rates_after control terms.old id rate)) result id (kind_of kind) }
+    ensures recast { Recast (with_rates control (rates_after control terms.old id rate)) result id (kind_in kind) }
     ensures terms_after { terms.new ≡ with_terms terms.old id rate burst 0 }
 {
     let old = terms[(RATE + id) as usize];
     set_terms(terms, id, rate, burst, 0);
     recast(trade(control, old, rate), id, kind)
-}
-
-fn least(a: u32, b: u32) -> u32
-    ensures { result ≡ min a b }
-{
-    if a < b { a } else { b }
 }
 
 // Gives a client of the same kind new terms: a level above the new burst comes down to it.
@@ -104,7 +104,7 @@ fn retune(control: Control, terms: &mut [u32; TERMS], id: u32, rate: u32, burst:
         ≡ with_terms terms.old id rate burst (retuned_level terms.old id burst) }
 {
     let old = terms[(RATE + id) as usize];
-    let level = least(terms[(LEVEL + id) as usize], burst * SHARES);
+    let level = terms[(LEVEL + id) as usize].min(burst * SHARES);
     set_terms(terms, id, rate, burst, level);
     trade(control, old, rate)
 }
@@ -116,12 +116,8 @@ fn unlink_ring(links: &mut [u32; LINKS], id: u32, head: u32, count: u32)
     ensures by_index { (order : List ℕ) → Ordered links.old order → places_of id order ≡ ring id head count
         → Withdrawn links.new id order }
 {
-    let mut at = head;
-    let mut left = count;
-    while 0 < left {
-        order::unlink(links, id * PLACES + at % PLACES);
-        at += 1;
-        left -= 1;
+    for i in 0..count {
+        order::unlink(links, id * PLACES + (head + i) % PLACES);
     }
 }
 
@@ -164,95 +160,90 @@ fn empty(control: Control, stocks: &mut [u32; STOCKS], links: &mut [u32; LINKS],
     clear(control, stocks, id)
 }
 
-// The bounds that the terms are held to.
-fn within(low: u32, high: u32, x: u32) -> bool
-    ensures { result ≡ within low high x }
+fn burst_fits(kind: ClientKind, burst: u32) -> bool
+    ensures { result ≡ burst_fits (type_of kind) burst }
 {
-    low <= x && x <= high
+    match kind {
+        ClientKind::Indifferent => (1..=BURST_LIMIT).contains(&burst),
+        ClientKind::Private => burst == 0,
+    }
 }
 
-fn is_kind(kind: u32) -> bool
-    ensures { result ≡ is_active (kind_of kind) }
+// The kind that terms name, or what they are refused for, where the others hold so much of the threshold: 7, 8, 9, 10.
+fn check_terms(
+    threshold: u32,
+    others: u32,
+    kind: u32,
+    rate: u32,
+    burst: u32,
+) -> Result<ClientKind, Refusal>
+    ensures number { number_in result ≡ first_failed (term_checks threshold others kind rate burst) }
+    ensures named { IfOk result (λ k. kind ≡ type_of k) }
 {
-    kind == INDIFFERENT || kind == PRIVATE
-}
-
-fn burst_fits(kind: u32, burst: u32) -> bool
-    ensures { result ≡ burst_fits kind burst }
-{
-    if kind == INDIFFERENT {
-        return within(1, BURST_LIMIT, burst);
+    let named = ClientKind::try_from(kind)?;
+    if !(1..=SHARES).contains(&rate) {
+        return Err(Refusal::Rate);
     }
-    burst == 0
-}
-
-// The number that terms are refused with, where the others hold so much of the threshold: 7, 8, 9, 10.
-fn terms_number(threshold: u32, others: u32, kind: u32, rate: u32, burst: u32) -> u32
-    ensures { result ≡ first_failed (term_checks threshold others kind rate burst) }
-{
-    if !is_kind(kind) {
-        return 7;
-    }
-    if !within(1, SHARES, rate) {
-        return 8;
-    }
-    if !burst_fits(kind, burst) {
-        return 9;
+    if !burst_fits(named, burst) {
+        return Err(Refusal::Burst);
     }
     if tables::wide(threshold) < tables::wide(others) + tables::wide(rate) {
-        return 10;
+        return Err(Refusal::Rates);
     }
-    0
+    Ok(named)
 }
 
-// The number that a join is refused with: 19, 4, 6, and by the terms.
-fn join_number(control: Control, id: u32, kind: u32, rate: u32, burst: u32) -> u32
-    ensures { (t : Tables) → Valid control t → result ≡ refusal control t (λ s. join_checks s id kind rate burst) }
-{
-    if !control.opened {
-        return UNOPENED;
-    }
-    if IDS <= id {
-        return 4;
-    }
-    if tables::active(control, id) {
-        return 6;
-    }
-    terms_number(control.threshold, control.rates, kind, rate, burst)
-}
-
-// The number that a change is refused with: 19, 4, 5, and by the terms, with the old rate taken off.
-fn change_number(
+// The kind that a join names, or what it is refused for: 19, 4, 6, and by the terms.
+fn check_join(
     control: Control,
-    terms: &[u32; TERMS],
     id: u32,
     kind: u32,
     rate: u32,
     burst: u32,
-) -> u32
-    requires { control.opened ≡ true → id < ids → rate_at terms.now id ≤ control.rates }
-    ensures { (stocks handles lengths links counts : List ℕ)
-        → Valid control (tables terms.now stocks handles lengths links counts)
-        → result ≡ refusal control (tables terms.now stocks handles lengths links counts)
-        (λ s. change_checks s id kind rate burst) }
+) -> Result<ClientKind, Refusal>
+    ensures number { (t : Tables) → Valid control t
+        → number_in result ≡ refusal control t (λ s. join_checks s id kind rate burst) }
+    ensures named { IfOk result (λ k. kind ≡ type_of k) }
 {
-    let number = tables::active_number(control, id);
-    if number != 0 {
-        return number;
+    if !control.opened {
+        return Err(Refusal::Unopened);
     }
-    let others = control.rates - terms[(RATE + id) as usize];
-    terms_number(control.threshold, others, kind, rate, burst)
+    if IDS <= id {
+        return Err(Refusal::Id);
+    }
+    if tables::active(control, id) {
+        return Err(Refusal::Active);
+    }
+    check_terms(control.threshold, control.rates, kind, rate, burst)
+}
+
+// The kind that a change names, or what it is refused for: 19, 4, 5, and by the terms, with the old rate taken off.
+fn check_change(
+    control: Control,
+    tables: &Tables,
+    id: u32,
+    kind: u32,
+    rate: u32,
+    burst: u32,
+) -> Result<ClientKind, Refusal>
+    requires { Valid control tables.now }
+    ensures number { number_in result ≡ refusal control tables.now (λ s. change_checks s id kind rate burst) }
+    ensures named { IfOk result (λ k. kind ≡ type_of k) }
+{
+    tables::check_active(control, id)?;
+    let others = control.rates - tables.terms[(RATE + id) as usize];
+    check_terms(control.threshold, others, kind, rate, burst)
 }
 
 // Whether an active client is of the kind already.
-fn keeps_kind(control: Control, id: u32, kind: u32) -> bool
+fn keeps_kind(control: Control, id: u32, kind: ClientKind) -> bool
     requires { is_active (kind_at control id) ≡ true }
-    ensures { result ≡ same_kind (kind_at control id) (kind_of kind) }
+    ensures { result ≡ same_kind (kind_at control id) (kind_in (Some kind)) }
 {
-    if marks::has(control.indifferent, id) {
-        return kind == INDIFFERENT;
+    match kind {
+        ClientKind::Indifferent => marks::has(control.indifferent, id),
+        ClientKind::Private => !marks::has(control.indifferent, id),
     }
-    kind == PRIVATE
 }
 
 // How many packets of an id wait.
@@ -273,15 +264,16 @@ pub fn join(
     burst: u32,
 ) -> Answered
     requires { Valid control tables.old }
-    ensures { Promised (Join id kind rate burst) control tables.old result tables.new }
+    ensures promised { Promised (Join id kind rate burst) control tables.old result tables.new }
+    ensures links { tables.new.links ≡ tables.old.links }
 {
-    let number = join_number(control, id, kind, rate, burst);
-    if number != 0 {
-        return tables::refused(control, number);
-    }
+    let named = match check_join(control, id, kind, rate, burst) {
+        Ok(named) => named,
+        Err(refusal) => return tables::refused(control, refusal.number()),
+    };
     let bare = clear(control, &mut tables.stocks, id);
     counts::clear(&mut tables.counts, id);
-    tables::accepted(place_client(bare, &mut tables.terms, id, kind, rate, burst))
+    tables::accepted(place_client(bare, &mut tables.terms, id, Some(named), rate, burst))
 }
 
 // Gives an active client new terms, and a new start where its kind differs (paper 01, "Change"). What that empties is counted.
@@ -297,16 +289,21 @@ pub fn change(
     requires { Valid control tables.old }
     ensures { Promised (Change id kind rate burst) control tables.old result tables.new }
 {
-    let number = change_number(control, &tables.terms, id, kind, rate, burst);
-    if number != 0 {
-        return tables::refused(control, number);
-    }
-    if keeps_kind(control, id, kind) {
+    let named = match check_change(control, tables, id, kind, rate, burst) {
+        Ok(named) => named,
+        Err(refusal) => return tables::refused(control, refusal.number()),
+    };
+    if keeps_kind(control, id, named) {
         return tables::accepted(retune(control, &mut tables.terms, id, rate, burst));
     }
-    counts::raise(&mut tables.counts, id, EMPTIED, waiting_of(&tables.stocks, id));
+    counts::raise(
+        &mut tables.counts,
+        id,
+        EMPTIED,
+        waiting_of(&tables.stocks, id),
+    );
     let bare = empty(control, &mut tables.stocks, &mut tables.links, id);
-    tables::accepted(place_client(bare, &mut tables.terms, id, kind, rate, burst))
+    tables::accepted(place_client(bare, &mut tables.terms, id, Some(named), rate, burst))
 }
 
 // Takes an active client away, with all that it has, its counts too (paper 01, "Leave"). Refused: 19, 4, 5.
@@ -314,11 +311,10 @@ pub fn leave(control: Control, tables: &mut Tables, id: u32) -> Answered
     requires { Valid control tables.old }
     ensures { Promised (Leave id) control tables.old result tables.new }
 {
-    let number = tables::active_number(control, id);
-    if number != 0 {
-        return tables::refused(control, number);
+    if let Err(refusal) = tables::check_active(control, id) {
+        return tables::refused(control, refusal.number());
     }
     let bare = empty(control, &mut tables.stocks, &mut tables.links, id);
     counts::clear(&mut tables.counts, id);
-    tables::accepted(place_client(bare, &mut tables.terms, id, NO_KIND, 0, 0))
+    tables::accepted(place_client(bare, &mut tables.terms, id, None, 0, 0))
 }

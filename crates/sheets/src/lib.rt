@@ -15,9 +15,8 @@ pub fn sheet(control: Control, counts: &[u64; COUNTS], id: u32) -> Result<CountS
     ensures { (t : Tables) → t.counts ≡ counts.now
         → result ≡ count_sheet (core_of control t) (counts_of control t) id }
 {
-    let number = tables::active_number(control, id);
-    if number != 0 {
-        return Err(number);
+    if let Err(refusal) = tables::check_active(control, id) {
+        return Err(refusal.number());
     }
     Ok(counts::sheet(counts, id))
 }

@@ -1,11 +1,15 @@
 -- When two kinds are the same, and what kind a number gives. By splitting the kinds or the number. Assumes nothing.
 use Prim.Native.Nat.{ℕ}
+use Rattle.std.specs.Prelude.{Some}
 use mathlib.Core.Path.{◌≡◌, refl}
 use mathlib.Core.Logic.{◌≢◌}
 use mathlib.Core.Bool.{Bool, true, false, cond}
 use lib.Dec.{eqb}
 use Rattle.definitions.specs.Sizes.{indifferent_kind, private_kind}
 use Rattle.definitions.specs.Client.{Kind, absent, indifferent, private, kind_of, is_active, is_indifferent, is_private, same_kind}
+use Rattle.definitions.specs.declared.ClientKind.{ClientKind}
+use Rattle.definitions.specs.declared.ClientKind.TheVariants.{Indifferent, Private}
+use Rattle.definitions.specs.ClientKinds.{type_of, kind_in}
 use Rattle.definitions.proofs.Laws.Tests.{true-false, eqb-cases}
 
 pub same_kind-refl : (k : Kind) → same_kind k k ≡ true
@@ -70,3 +74,14 @@ private_kind_lem private e = refl
 pub active_private : (b : Bool) → b ≡ is_active (cond b private absent)
 active_private true = refl
 active_private false = refl
+
+-- a kind that was read from a number is that number's
+pub kind_read : (number : ℕ) (k : ClientKind) → number ≡ type_of k → kind_in (Some k) ≡ kind_of number
+unfolding kind_of indifferent_kind private_kind
+kind_read number Indifferent e = rw e
+kind_read number Private e = rw e
+
+pub kind_read-active : (number : ℕ) (k : ClientKind) → number ≡ type_of k → is_active (kind_of number) ≡ true
+unfolding kind_of indifferent_kind private_kind
+kind_read-active number Indifferent e = rw e
+kind_read-active number Private e = rw e

@@ -1,11 +1,13 @@
 -- What a test decides, over any arguments. Each holds by splitting the test. Assumes nothing.
 use Prim.Native.Nat.{ℕ, suc, ◌≤◌, ◌<◌}
-use mathlib.Core.Path.{◌≡◌, refl, sym, ◌∙◌}
+use Rattle.std.proofs.Common.{Less, Equal, Greater, is_le}
+use Rattle.std.specs.Ordering.{nat_cmp}
+use mathlib.Core.Path.{◌≡◌, refl, sym, ap₂, ◌∙◌}
 use mathlib.Core.Logic.{◌⊎◌, inl, inr}
 use mathlib.Core.Bool.{Bool, true, false, cond, ◌&&◌, ◌||◌, true≢false}
 use native.Mathlib.Omega.{arith}
 use lib.Dec.{T, eqb, leb, ltb}
-use borrow.Author.Tests.{eqb-true, eqb-false, eq-eqb, ne_eqb, leb-true, ltb-true, ltb-false}
+use borrow.Author.Tests.{eqb-true, eqb-false, eq-eqb, ne_eqb, leb-true, ltb-true, ltb-false, lt-ltb, le-ltb, le-leb, lt-leb}
 use Rattle.definitions.specs.Checks.{within}
 
 pub T_true : {b : Bool} → T b → b ≡ true
@@ -73,3 +75,17 @@ unfolding within
 within-true low high x e =
     let both = and_both (leb low x) (leb x high) e in
     (leb-true low x both.0, leb-true x high both.1)
+
+-- the order of numbers as the library tells it
+is_le-leb : (a b : ℕ) → is_le (nat_cmp a b) ≡ leb a b
+is_le-leb a b =
+    lt_cases a b
+    (λ l. rw (lt-ltb a b l, le-leb a b (omega (arith, l))) refl)
+    (λ h. eqb-cases (λ t. is_le (cond (ltb a b) Less (cond t Equal Greater)) ≡ leb a b) a b
+    (λ e. rw (le-ltb a b h, le-leb a b (omega (arith, e))) refl)
+    (λ ne. rw (le-ltb a b h, lt-leb a b (omega (arith, h, ne))) refl))
+
+-- and whether it finds a number within two bounds
+pub told_within : (low high x : ℕ) {b : Bool} → b ≡ (is_le (nat_cmp low x) && is_le (nat_cmp x high)) → within low high x ≡ b
+unfolding within
+told_within low high x e = sym (e ∙ ap₂ (λ (a b : Bool). a && b) (is_le-leb low x) (is_le-leb x high))
