@@ -64,7 +64,7 @@ fn cut_sum(demands: &[u32], level: u32) -> u32
 {
     let mut sum = 0;
     for &demand in demands {
-        sum += demand.min(level);
+        sum += level.min(demand);
     }
     sum
 }
@@ -102,7 +102,7 @@ fn put_rates(level: u32, left: u32, demands: &[u32], rates: &mut [u32])
     let mut rest = left;
     for (i, &demand) in demands.iter().enumerate() {
         let more = extra(level, rest, demand);
-        rates[i] = demand.min(level) + more;
+        rates[i] = level.min(demand) + more;
         rest -= more;
     }
 }

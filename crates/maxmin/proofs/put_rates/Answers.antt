@@ -1,5 +1,6 @@
 -- A turn of the writing, and its end.
 use Rattle.std.proofs.Common.{sym, ◌∙◌, ℕ, ◌≤◌, ltb, get_or, arith}
+use Rattle.std.proofs.Math.Nat.{min_comm}
 use Rattle.definitions.specs.Sizes.{shares}
 use Rattle.definitions.specs.FairRates.{extra}
 use Rattle.definitions.proofs.Laws.Tests.{cond_both}
@@ -21,7 +22,7 @@ overflow_sub-rest c = omega (arith, extra_most c.args.level c.loop-i.rest (get_o
 
 pub loop-i-preserved : goal.loop-i-preserved
 loop-i-preserved c =
-    rw (c.min.ensures, c.extra-more.ensures)
+    rw (c.min.ensures, min_comm c.args.level _, c.extra-more.ensures)
     (sym (rates-next c.args.demands.now c.loop-i.i c.loop-i-test.true c.args.level c.loop-i.rest c.loop-i.rates) ∙ c.loop-i.invariant)
 
 pub returns : goal.returns
