@@ -16,13 +16,14 @@ pub struct Bucket {
 }
 
 // The level after one refill: the rate is added, up to the burst. Within the limits no sum wraps.
+#[tactic(auto, unfolding(definitions::specs::Sizes::shares, definitions::specs::Sizes::burst_limit))]
 fn filled(level: u32, rate: u32, burst: u32) -> u32
     requires { Within (bucket_of level rate burst) }
     ensures { result ≡ level_after (bucket_of level rate burst) }
 {
     let full = burst * SHARES;
     let sum = level + rate;
-    if sum < full { sum } else { full }
+    sum.min(full)
 }
 
 // Refills the bucket where it is kept. Rate and burst stay.
@@ -47,5 +48,5 @@ pub fn level_after(level: u32, rate: u32, burst: u32) -> u32
 pub fn tokens(level: u32, rate: u32, ticks: u32) -> u64
     ensures { (result ≡ tokens level rate ticks) × (result < 2 ^ 54) }
 {
-    (level as u64 + ticks as u64 * rate as u64) / SHARES as u64
+    (u64::from(level) + u64::from(ticks) * u64::from(rate)) / u64::from(SHARES)
 }

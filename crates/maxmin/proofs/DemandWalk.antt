@@ -32,14 +32,17 @@ module _ (ds : List ℕ) (i : ℕ) (more : i < length ds) where
   unfolding rates_at
   rates-next level left room = ap (λ (rest : List ℕ). sets room i (rates_at level left rest)) next ∙ rw add-one
 
-  pub listed_next : (is : List ℕ) (lowest : ℕ)
-      → length is ≡ length ds
-      → listed_from lowest (drop i is) (drop i ds)
-      ≡ (entry_fits lowest (get_or is i 0) (get_or ds i 0) && listed_from (get_or is i 0 + 1) (drop (i + 1) is) (drop (i + 1) ds))
-  unfolding listed_from
-  listed_next is lowest same =
-      let others : drop i is ≡ get_or is i 0 ∷ drop (i + 1) is = rw add-one (drop-cons is i 0 (omega arith)) in
-      rw (next, others, add-one i, add-one)
+-- an entry of a list, and the end of one
+pub listed_turn : (lowest id demand : ℕ) (is ds : List ℕ) {xs ys : List ℕ} → xs ≡ id ∷ is → ys ≡ demand ∷ ds
+    → listed_from lowest xs ys ≡ (entry_fits lowest id demand && listed_from (id + 1) is ds)
+unfolding listed_from
+listed_turn lowest id demand is ds e f = rw (e, f, add-one)
+
+pub listed_end : (lowest : ℕ) (xs ys : List ℕ) → length xs ≡ length ys → length xs ≡ 0 → listed_from lowest xs ys ≡ true
+unfolding listed_from
+listed_end lowest [] [] same none = refl
+listed_end lowest [] (y ∷ ys) same none = absurd (omega arith)
+listed_end lowest (x ∷ xs) ys same none = absurd (omega arith)
 
 pub entry_low : (lowest id demand : ℕ) → entry_fits lowest id demand ≡ true → id < ids
 unfolding entry_fits
@@ -54,11 +57,6 @@ pub rates-none : (ds : List ℕ) (i level left : ℕ) (room : List ℕ) → leng
     → sets room i (rates_at level left (drop i ds)) ≡ room
 unfolding rates_at
 rates-none ds i level left room past = ap (λ (rest : List ℕ). sets room i (rates_at level left rest)) (drop_of_length-le ds past)
-
-pub listed-none : (is ds : List ℕ) (i lowest : ℕ) → length is ≤ i → length ds ≤ i
-    → listed_from lowest (drop i is) (drop i ds) ≡ true
-unfolding listed_from
-listed-none is ds i lowest past past' = rw (drop_of_length-le is past, drop_of_length-le ds past')
 
 pub listed_unequal : (is ds : List ℕ) (lowest : ℕ) → (length is ≡ length ds → ⊥) → listed_from lowest is ds ≡ false
 unfolding listed_from

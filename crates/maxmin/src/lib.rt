@@ -3,7 +3,7 @@
 // cost grows with the threshold.
 #![tactic(auto)]
 
-ghost use Rattle.std.specs.Prelude.{◌≡◌, ◌≤◌, min, length};
+ghost use Rattle.std.specs.Prelude.{◌≡◌, ◌≤◌, length};
 ghost use Rattle.std.proofs.lemmas.List.Edits.{sets};
 ghost use Rattle.definitions.specs.Sizes.{ids, shares};
 ghost use Rattle.definitions.specs.Checks.{within};
@@ -15,33 +15,19 @@ use definitions::{Answer, IDS, SHARES};
 // The number of the one check.
 const UNFAIR: u32 = 22;
 
-// A demand, cut to a level.
-fn cut(demand: u32, level: u32) -> u32
-    ensures { result ≡ min demand level }
-{
-    if demand < level { demand } else { level }
-}
-
+#[tactic(auto, unfolding(definitions::specs::Checks::within, definitions::specs::Sizes::shares))]
 fn is_share(n: u32) -> bool
     ensures { result ≡ within 1 shares n }
 {
-    if n == 0 {
-        return false;
-    }
-    n <= SHARES
+    (1..=SHARES).contains(&n)
 }
 
 // Whether a demand is in range, and its id rises and stays below the limit.
+#[tactic(auto, unfolding(definitions::specs::FairRates::entry_fits, definitions::specs::Sizes::ids))]
 fn is_entry(lowest: u32, id: u32, demand: u32) -> bool
     ensures { result ≡ entry_fits lowest id demand }
 {
-    if !is_share(demand) {
-        return false;
-    }
-    if id < lowest {
-        return false;
-    }
-    id < IDS
+    is_share(demand) && lowest <= id && id < IDS
 }
 
 // Whether a list is in order, with one id to a demand.
@@ -52,31 +38,23 @@ fn is_listed(listed: &[u32], demands: &[u32]) -> bool
         return false;
     }
     let mut lowest = 0;
-    let mut i = 0;
-    while i < demands.len() {
-        let id = listed[i];
-        if !is_entry(lowest, id, demands[i]) {
+    for (&id, &demand) in listed.iter().zip(demands) {
+        if !is_entry(lowest, id, demand) {
             return false;
         }
         lowest = id + 1;
-        i += 1;
     }
     true
 }
 
+#[tactic(auto, unfolding(definitions::specs::FairRates::acceptable, definitions::specs::Sizes::ids))]
 fn is_acceptable(threshold: u32, listed: &[u32], demands: &[u32]) -> bool
     ensures { result ≡ acceptable threshold listed.now demands.now }
 {
-    if !is_share(threshold) {
-        return false;
-    }
-    if demands.len() > IDS as usize {
-        return false;
-    }
-    if demands.len() > threshold as usize {
-        return false;
-    }
-    is_listed(listed, demands)
+    is_share(threshold)
+        && demands.len() <= IDS as usize
+        && demands.len() <= threshold as usize
+        && is_listed(listed, demands)
 }
 
 // The demands, cut to a level, added up.
@@ -85,10 +63,8 @@ fn cut_sum(demands: &[u32], level: u32) -> u32
     ensures { result ≡ cut_sum level demands.now }
 {
     let mut sum = 0;
-    let mut i = 0;
-    while i < demands.len() {
-        sum += cut(demands[i], level);
-        i += 1;
+    for &demand in demands {
+        sum += level.min(demand);
     }
     sum
 }
@@ -112,16 +88,11 @@ fn fair_level(threshold: u32, demands: &[u32]) -> u32
 }
 
 // The share that a demand above the level gets of what is left.
+#[tactic(auto, unfolding(definitions::specs::FairRates::extra))]
 fn extra(level: u32, left: u32, demand: u32) -> u32
     ensures { result ≡ extra level left demand }
 {
-    if demand <= level {
-        return 0;
-    }
-    if left == 0 {
-        return 0;
-    }
-    1
+    if demand <= level { 0 } else { left.min(1) }
 }
 
 fn put_rates(level: u32, left: u32, demands: &[u32], rates: &mut [u32])
@@ -129,12 +100,10 @@ fn put_rates(level: u32, left: u32, demands: &[u32], rates: &mut [u32])
     ensures { rates.new ≡ sets rates.old 0 (rates_at level left demands.now) }
 {
     let mut rest = left;
-    let mut i = 0;
-    while i < demands.len() {
-        let more = extra(level, rest, demands[i]);
-        rates[i] = cut(demands[i], level) + more;
+    for (i, &demand) in demands.iter().enumerate() {
+        let more = extra(level, rest, demand);
+        rates[i] = level.min(demand) + more;
         rest -= more;
-        i += 1;
     }
 }
 
@@ -143,10 +112,7 @@ fn put_rates(level: u32, left: u32, demands: &[u32], rates: &mut [u32])
 pub fn rates(threshold: u32, listed: &[u32], demands: &[u32], rates: &mut [u32]) -> Answer
     ensures { Shared threshold listed.now demands.now rates.old result rates.new }
 {
-    if !is_acceptable(threshold, listed, demands) {
-        return Answer::Refused { number: UNFAIR };
-    }
-    if rates.len() < demands.len() {
+    if !is_acceptable(threshold, listed, demands) || rates.len() < demands.len() {
         return Answer::Refused { number: UNFAIR };
     }
     let level = fair_level(threshold, demands);
