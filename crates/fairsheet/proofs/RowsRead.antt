@@ -2,23 +2,23 @@
 -- lists. A line of another shape leaves the whole without rows. Assumes nothing.
 use Prim.Native.Nat.{ℕ, suc, ◌+◌, ◌≤◌}
 use mathlib.Core.Path.{◌≡◌, refl, sym, ap, subst, ◌∙◌}
-use mathlib.Core.Bool.{Bool, true, ◌&&◌, and-true, and_assoc}
+use mathlib.Core.Bool.{Bool, true, false, not, ◌&&◌, and-true, and-false, and_assoc}
 use mathlib.Core.List.{List, [], ◌∷◌, ◌++◌, append_assoc, append-nil, map-append}
 use mathlib.Core.Option.{Option, none, some}
 use native.Mathlib.Omega.{arith}
 use lib.ListN.{length, take, drop, set, length-append, length-set}
 use lib.Seq.{take-suc-set}
-use Rattle.definitions.proofs.Laws.Tests.{and_both}
 use Rattle.grammar.specs.Templates.{limits, numbers_fit, matched}
 use Rattle.grammar.specs.Grammar.{nth}
 use Rattle.grammar.specs.Lines.{lines}
 use Rattle.grammar.specs.FairSheet.{demand_form, with_line, demand_rows, rows_fit, column}
 use Rattle.parser.specs.declared.Pair.{Pair}
-use Rattle.parser.specs.Pairs.{pair_of}
 use Rattle.reader.specs.LineSpans.{between}
 use Rattle.reader.proofs.LinesAhead.{Passed, lines_none}
-use Rattle.fairsheet.specs.SheetRead.{judged, size_number, rows_number, Column, RowsKept, DemandsRead}
-use Rattle.fairsheet.proofs.PairsFound.{judged-none, judged_more, Found, line_found, line_unformed}
+use Rattle.std.specs.Prelude.{Ok, Err}
+use Rattle.grammar.specs.declared.Unread.TheVariants.{NoForm, TooLarge}
+use Rattle.fairsheet.specs.SheetRead.{rows_read, Column, RowsKept, DemandsRead}
+use Rattle.fairsheet.proofs.PairsFound.{Found, Holds}
 
 -- ---- one row more
 
@@ -68,92 +68,104 @@ column_row n rows numbers list {x} {count} all value kept room =
 
 -- ---- the rows so far
 
-pub record RowsRead (text : List ℕ) (from : ℕ) (first : Pair) (listed demands : List ℕ) (refused count at : ℕ) : Type 0 where
+pub record RowsRead (text : List ℕ) (from : ℕ) (listed demands : List ℕ) (large : Bool) (count at : ℕ) : Type 0 where
   pub rows : List (List ℕ)
   pub ahead : demand_rows (lines (drop from text)) ≡ before rows (demand_rows (lines (drop at text)))
-  pub number : refused ≡ judged first.refused (size_number (rows_fit rows))
+  pub size : rows_fit rows ≡ not large
   pub few : count ≤ at
   pub all : count ≡ length rows
-  pub kept : rows_fit rows ≡ true → Column 0 rows listed × Column 1 rows demands
+  pub kept : large ≡ false → RowsKept rows listed demands
 
-pub rows_none : (text : List ℕ) (from : ℕ) (first : Pair) (listed demands : List ℕ)
-    → RowsRead text from first listed demands first.refused 0 from
+pub rows_none : (text : List ℕ) (from : ℕ) (listed demands : List ℕ) → RowsRead text from listed demands false 0 from
 unfolding rows_fit
-rows_none text from first listed demands = record {
+rows_none text from listed demands = record {
   rows = [];
   ahead = before_none (demand_rows (lines (drop from text)));
-  number = judged-none first.refused;
+  size = refl;
   few = omega arith;
   all = refl;
-  kept = λ fits. (λ room. refl, λ room. refl);
+  kept = λ fits. record { ids = λ room. refl; shares = λ room. refl };
 }
 
-module _ {text : List ℕ} {from : ℕ} {first : Pair} {listed demands : List ℕ} {refused count at : ℕ}
-    (r : RowsRead text from first listed demands refused count at) where
+module _ {text : List ℕ} {from : ℕ} {listed demands : List ℕ} {large : Bool} {count at : ℕ}
+    (r : RowsRead text from listed demands large count at) where
   -- at the end of the text
-  pub rows_done : length text ≤ at
-      → DemandsRead first (demand_rows (lines (drop from text))) listed demands
-      (record { refused = refused; threshold = first.first; count = count })
-  unfolding demand_rows
-  rows_done past =
-      let whole : demand_rows (lines (drop from text)) ≡ some r.rows
-      = r.ahead ∙ ap (λ (ls : List (List ℕ)). before r.rows (demand_rows ls)) (lines_none text at past)
-      ∙ ap some (append-nil r.rows) in
-      record {
-        number = r.number ∙ ap (rows_number first.refused) (sym whole);
-        threshold = refl;
-        kept = λ rs given fits.
-            let same : r.rows ≡ rs = cc in
-            subst (λ (rows : List (List ℕ)). RowsKept rows listed demands count) same
-            (let both = r.kept (ap rows_fit same ∙ fits) in record { all = r.all; ids = both.0; shares = both.1 });
-      }
+  module _ (past : length text ≤ at) where
+    whole : demand_rows (lines (drop from text)) ≡ some r.rows
+    unfolding demand_rows
+    whole =
+        r.ahead ∙ ap (λ (ls : List (List ℕ)). before r.rows (demand_rows ls)) (lines_none text at past)
+        ∙ ap some (append-nil r.rows)
 
-  module _ {next : ℕ} (passed : Passed text at next) {row : Pair} (read : row ≡ pair_of demand_form (between text at next)) where
+    pub rows_large : large ≡ true → DemandsRead (demand_rows (lines (drop from text))) listed demands (Err TooLarge)
+    rows_large e = record {
+      answer = sym (ap rows_read whole ∙ rw (r.size, e));
+      kept = λ rs given fits.
+          let same : rs ≡ r.rows = cc whole in
+          let never : ◌≡◌ {A = Bool} true false = sym fits ∙ ap rows_fit same ∙ r.size ∙ ap not e in
+          absurd (cc);
+    }
+
+    pub rows_done : large ≡ false → DemandsRead (demand_rows (lines (drop from text))) listed demands (Ok count)
+    rows_done e = record {
+      answer = sym (ap rows_read whole ∙ rw (r.size, e, r.all));
+      kept = λ rs given fits.
+          let same : r.rows ≡ rs = cc whole in
+          subst (λ (rows : List (List ℕ)). RowsKept rows listed demands) same (r.kept e);
+    }
+
+  module _ {next : ℕ} (passed : Passed text at next) where
     -- a line of another shape
-    pub rows_unformed : row.refused ≡ 16
-        → DemandsRead first (demand_rows (lines (drop from text))) listed demands
-        (record { refused = 16; threshold = first.first; count = count })
-    rows_unformed number =
+    pub rows_unformed : matched demand_form (between text at next) ≡ none
+        → DemandsRead (demand_rows (lines (drop from text))) listed demands (Err NoForm)
+    rows_unformed shape =
         let whole : demand_rows (lines (drop from text)) ≡ none
-        = r.ahead
-        ∙ ap (before r.rows) (demand_rows_line text at next passed none (line_unformed demand_form _ row read number)) in
-        record {
-          number = ap (rows_number first.refused) (sym whole);
-          threshold = refl;
-          kept = λ rs given fits. let never : ◌≡◌ {A = ℕ} 0 1 = cc in absurd (omega arith);
-        }
+        = r.ahead ∙ ap (before r.rows) (demand_rows_line text at next passed none shape) in
+        record { answer = ap rows_read (sym whole); kept = λ rs given fits. absurd (cc) }
 
     -- a demand
-    pub rows_more : (row.refused ≡ 16 → ⊥)
-        → {more : ℕ} {listed' demands' : List ℕ} → more ≡ judged refused row.refused
+    module _ {fits : Bool} (f : Found demand_form (between text at next) fits) where
+      abbrev longer : List (List ℕ)
+      longer = r.rows ++ (f.numbers ∷ [])
+
+      longer_ahead : demand_rows (lines (drop from text)) ≡ before longer (demand_rows (lines (drop next text)))
+      longer_ahead =
+          r.ahead
+          ∙ ap (before r.rows) (demand_rows_line text at next passed (some f.numbers) f.shape)
+          ∙ before_row r.rows f.numbers (demand_rows (lines (drop next text)))
+
+      longer_size : rows_fit longer ≡ (not large && fits)
+      longer_size = rows_fit_row r.rows f.numbers ∙ rw (r.size, f.size)
+
+      longer_all : count + 1 ≡ length longer
+      longer_all = omega (arith, r.all, length-append r.rows (f.numbers ∷ []))
+
+    pub row_large : Found demand_form (between text at next) false → RowsRead text from listed demands true (count + 1) next
+    row_large f = record {
+      rows = longer f;
+      ahead = longer_ahead f;
+      size = longer_size f ∙ and-false (not large);
+      few = omega (arith, passed.forth, r.few);
+      all = longer_all f;
+      kept = λ e. absurd (cc);
+    }
+
+    pub row_kept : {row : Pair} → Holds demand_form (between text at next) row
+        → {listed' demands' : List ℕ}
         → listed' ≡ set listed count row.first
         → demands' ≡ set demands count row.second
-        → RowsRead text from first listed' demands' more (count + 1) next
-    rows_more other {more} {listed'} {demands'} given set_l set_d =
-        let f : Found demand_form (between text at next) row = line_found demand_form _ row read other in
-        let fit : Bool = numbers_fit (limits demand_form) f.numbers in
-        let split : rows_fit (r.rows ++ (f.numbers ∷ [])) ≡ (rows_fit r.rows && fit) = rows_fit_row r.rows f.numbers in
+        → RowsRead text from listed' demands' large (count + 1) next
+    row_kept {row} h {listed'} {demands'} set_l set_d =
+        let f = h.found in
         record {
-          rows = r.rows ++ (f.numbers ∷ []);
-          ahead =
-              r.ahead
-              ∙ ap (before r.rows) (demand_rows_line text at next passed (some f.numbers) f.shape)
-              ∙ before_row r.rows f.numbers (demand_rows (lines (drop next text)));
-          number =
-              given
-              ∙ ap (λ (n : ℕ). judged n row.refused) r.number
-              ∙ ap (judged (judged first.refused (size_number (rows_fit r.rows)))) f.size
-              ∙ judged_more first.refused (rows_fit r.rows) fit
-              ∙ ap (λ (b : Bool). judged first.refused (size_number b)) (sym split);
+          rows = longer f;
+          ahead = longer_ahead f;
+          size = longer_size f ∙ and-true (not large);
           few = omega (arith, passed.forth, r.few);
-          all = omega (arith, r.all, length-append r.rows (f.numbers ∷ []));
-          kept = λ fits.
-              let both = and_both (rows_fit r.rows) fit (sym split ∙ fits) in
-              let values = f.values both.1 in
-              let columns = r.kept both.0 in (
-                subst (Column 0 (r.rows ++ (f.numbers ∷ []))) (sym set_l)
-                    (column_row 0 r.rows f.numbers listed r.all values.0 columns.0),
-                subst (Column 1 (r.rows ++ (f.numbers ∷ []))) (sym set_d)
-                    (column_row 1 r.rows f.numbers demands r.all values.1 columns.1),
-              );
+          all = longer_all f;
+          kept = λ e.
+              let columns = r.kept e in record {
+                ids = subst (Column 0 (longer f)) (sym set_l) (column_row 0 r.rows f.numbers listed r.all h.first columns.ids);
+                shares = subst (Column 1 (longer f)) (sym set_d) (column_row 1 r.rows f.numbers demands r.all h.second columns.shares);
+              };
         }

@@ -2,7 +2,7 @@
 -- nothing.
 use Prim.Native.Nat.{ℕ, ◌≤◌, ◌<◌}
 use mathlib.Core.Path.{◌≡◌, refl, sym, ap, subst, ◌∙◌}
-use mathlib.Core.Bool.{Bool, true, false, ◌&&◌, and-false}
+use mathlib.Core.Bool.{Bool, true, false, cond, ◌&&◌, and-false}
 use mathlib.Core.List.{List, [], ◌∷◌, ◌++◌}
 use mathlib.Core.Option.{Option, none, some}
 use native.Mathlib.Omega.{arith}
@@ -29,6 +29,11 @@ use Rattle.maxmin.specs.Shared.{granted, Shared}
 use Rattle.maxmin.proofs.DemandWalk.{listed_unequal}
 use Rattle.maxmin.proofs.RatesGiven.{accepted_few}
 use Rattle.maxmin.proofs.FairlyShared.{Given, accepted-given}
+use Rattle.std.specs.Prelude.{Result, Ok, Err}
+use Rattle.grammar.specs.declared.Unread.{Unread}
+use Rattle.grammar.specs.declared.Unread.TheVariants.{NoForm, TooLarge}
+use Rattle.grammar.specs.Unread.{unread_number}
+use Rattle.grammar.specs.Grammar.{nth}
 use Rattle.fairsheet.specs.declared.Reading.{Reading}
 use Rattle.fairsheet.specs.SheetRead.{RowsKept, SheetRead}
 use Rattle.fairsheet.specs.Written.{sheet_room, SheetWritten}
@@ -94,45 +99,52 @@ module _ (threshold : ℕ) (is ds : List ℕ) where
 -- the rows of a text that nothing refuses
 pub record Rows (o : Option DemandSheet) (listed demands : List ℕ) (r : Reading) : Type 0 where
   pub rows : List (List ℕ)
-  pub kept : RowsKept rows listed demands r.count
+  pub kept : RowsKept rows listed demands
+  pub all : r.count ≡ length rows
   pub prints : rates_printed r.threshold (column 0 rows) (column 1 rows) ≡ sheet_printed o
 
-module _ {listed demands : List ℕ} {r : Reading} where
-  pub read_refused : (o : Option DemandSheet) → SheetRead o listed demands r → (r.refused ≡ 0 → ⊥)
-      → printed (Refused r.refused) ≡ sheet_printed o
+module _ {listed demands : List ℕ} where
+  pub read_refused : {unread : Unread} (o : Option DemandSheet) → SheetRead o listed demands (Err unread)
+      → printed (Refused (unread_number unread)) ≡ sheet_printed o
   unfolding sheet_printed
-  read_refused none read other = ap (λ (n : ℕ). printed (Refused n)) read.number
-  read_refused (some s) read other = go (sheet_fits s) refl
+  read_refused {unread} none read = let same : unread ≡ NoForm = cc in rw same
+  read_refused {unread} (some s) read = go (sheet_fits s) refl read.answer
     where
-      go : (t : Bool) → sheet_fits s ≡ t → printed (Refused r.refused) ≡ sheet_printed (some s)
-      go true e = absurd (other (rw e at read.number))
-      go false e = rw (sheet_printed, e) (ap (λ (n : ℕ). printed (Refused n)) (rw e at read.number))
+      go : (t : Bool) → sheet_fits s ≡ t
+          → ◌≡◌ {A = Result Reading Unread} (Err unread) (cond t (Ok (record { threshold = nth s.first 0; count = length s.rows })) (Err TooLarge))
+          → printed (Refused (unread_number unread)) ≡ sheet_printed (some s)
+      go true e q = absurd (cc)
+      go false e q = let same : unread ≡ TooLarge = cc in rw (sheet_printed, e, same)
 
-  pub read_rows : (o : Option DemandSheet) → SheetRead o listed demands r → r.refused ≡ 0 → Rows o listed demands r
+  pub read_rows : {r : Reading} (o : Option DemandSheet) → SheetRead o listed demands (Ok r) → Rows o listed demands r
   unfolding sheet_printed
-  read_rows none read fits = absurd (omega (arith, read.number))
-  read_rows (some s) read fits = go (sheet_fits s) refl
+  read_rows none read = absurd (cc)
+  read_rows {r} (some s) read = go (sheet_fits s) refl read.answer
     where
-      go : (t : Bool) → sheet_fits s ≡ t → Rows (some s) listed demands r
-      go true e = record {
-        rows = s.rows;
-        kept = read.kept s refl e;
-        prints =
-            rw (sheet_printed, e)
-            (ap (λ (n : ℕ). rates_printed n (column 0 s.rows) (column 1 s.rows)) (read.threshold s refl e));
-      }
-      go false e = absurd (omega (arith, rw e at read.number))
+      go : (t : Bool) → sheet_fits s ≡ t
+          → ◌≡◌ {A = Result Reading Unread} (Ok r) (cond t (Ok (record { threshold = nth s.first 0; count = length s.rows })) (Err TooLarge))
+          → Rows (some s) listed demands r
+      go true e q =
+          let same : r ≡ record { threshold = nth s.first 0; count = length s.rows } = cc in record {
+            rows = s.rows;
+            kept = read.kept s refl e;
+            all = ap (λ (x : Reading). x.count) same;
+            prints =
+                rw (sheet_printed, e)
+                (ap (λ (x : Reading). rates_printed x.threshold (column 0 s.rows) (column 1 s.rows)) same);
+          }
+      go false e q = absurd (cc)
 
 module _ {o : Option DemandSheet} {listed demands : List ℕ} {r : Reading} (s : Rows o listed demands r) where
   pub rows_many : ids < r.count → printed (Refused 22) ≡ sheet_printed o
   rows_many over =
       let size : length (column 1 s.rows) ≡ length s.rows = length-map s.rows _ in
-      sym (too_many r.threshold (column 0 s.rows) (column 1 s.rows) (omega (arith, size, s.kept.all))) ∙ s.prints
+      sym (too_many r.threshold (column 0 s.rows) (column 1 s.rows) (omega (arith, size, s.all))) ∙ s.prints
 
   pub rows_few : r.count ≤ length listed → r.count ≤ length demands
       → rates_printed r.threshold (take r.count listed) (take r.count demands) ≡ sheet_printed o
   rows_few room room' =
-      let all : r.count ≡ length s.rows = s.kept.all in
+      let all : r.count ≡ length s.rows = s.all in
       rw (all, s.kept.ids (omega arith), s.kept.shares (omega arith)) s.prints
 
 -- ---- the bytes

@@ -7,12 +7,11 @@ ghost use Rattle.definitions.specs.Sizes.{ids};
 ghost use Rattle.grammar.specs.Lines.{lines};
 ghost use Rattle.grammar.specs.FairSheet.{demand_rows, shaped, rate_lines, rates_printed};
 ghost use Rattle.printer.specs.Appended.{Appended};
-ghost use Rattle.fairsheet.specs.SheetRead.{judged, DemandsRead, SheetRead};
+ghost use Rattle.fairsheet.specs.SheetRead.{DemandsRead, SheetRead};
 ghost use Rattle.fairsheet.specs.Written.{sheet_room, SheetWritten};
 
 use definitions::{Answer, IDS};
-use grammar::TEXT_LIMIT;
-use parser::Pair;
+use grammar::{TEXT_LIMIT, Unread};
 use printer::LINE_ROOM;
 
 // How many demands a list may have, and the room of their lines.
@@ -20,28 +19,16 @@ const ROWS: usize = IDS as usize;
 
 pub const SHEET_ROOM: usize = ROWS * LINE_ROOM;
 
-const FITS: u32 = 0;
-
-// What another shape is refused with, a text that is too long, and demands that fail the one check.
-const NO_FORM: u32 = 16;
-
+// What a text that is too long is answered with, and demands that fail the one check.
 const TOO_LONG: u32 = 18;
 
 const UNFAIR: u32 = 22;
 
-// What reading gave: the number that refuses the text, or 0, the threshold and how many demands there are.
+// What was read of a text that is not refused: its threshold, and how many demands there are.
 #[derive(Clone, Copy)]
 struct Reading {
-    refused: u32,
     threshold: u32,
     count: usize,
-}
-
-// What refuses two parts of a text: what refuses the first, if anything does.
-fn judged(first: u32, second: u32) -> u32
-    ensures { result ≡ judged first second }
-{
-    if first == FITS { second } else { first }
 }
 
 // Keeps a number of a row. Rows that have no room are counted and not kept, since so many are refused.
@@ -53,59 +40,57 @@ fn keep(column: &mut [u32], row: usize, n: u32)
     }
 }
 
-// The demands from a place on, behind a first line. A line of another shape ends the reading at once.
+// How many demands there are from a place on. A line of another shape ends the reading at once.
 fn read_demands(
     text: &[u8],
     from: usize,
-    first: Pair,
     listed: &mut [u32],
     demands: &mut [u32],
-) -> Reading
-    ensures { DemandsRead first (demand_rows (lines (drop from text.now)))
-        listed.new demands.new result }
+) -> Result<usize, Unread>
+    ensures { DemandsRead (demand_rows (lines (drop from text.now))) listed.new demands.new
+        result }
 {
-    let mut refused = first.refused;
-    let mut count: usize = 0;
+    let mut large = false;
+    let mut count = 0;
     let mut at = from;
     while at < text.len() {
-        let span = reader::line_at(text, at);
-        let next = span.next;
-        let row = parser::demand(&text[at..next]);
-        if row.refused == NO_FORM {
-            return Reading {
-                refused: NO_FORM,
-                threshold: first.first,
-                count,
-            };
+        let next = reader::line_at(text, at).next;
+        match parser::demand(&text[at..next]) {
+            Ok(row) => {
+                keep(listed, count, row.first);
+                keep(demands, count, row.second);
+            }
+            Err(Unread::TooLarge) => large = true,
+            Err(Unread::NoForm) => return Err(Unread::NoForm),
         }
-        refused = judged(refused, row.refused);
-        keep(listed, count, row.first);
-        keep(demands, count, row.second);
         count += 1;
         at = next;
     }
-    Reading {
-        refused,
-        threshold: first.first,
-        count,
+    if large {
+        return Err(Unread::TooLarge);
     }
+    Ok(count)
 }
 
 // The whole text. One without bytes has a first line without bytes, which is no form.
-fn read(text: &[u8], listed: &mut [u32], demands: &mut [u32]) -> Reading
+fn read(text: &[u8], listed: &mut [u32], demands: &mut [u32]) -> Result<Reading, Unread>
     ensures { SheetRead (shaped (lines text.now)) listed.new demands.new result }
 {
-    let span = reader::line_at(text, 0);
-    let next = span.next;
-    let first = parser::threshold(&text[..next]);
-    if first.refused == NO_FORM {
-        return Reading {
-            refused: NO_FORM,
-            threshold: 0,
-            count: 0,
-        };
+    let next = reader::line_at(text, 0).next;
+    match parser::threshold(&text[..next]) {
+        Ok(first) => {
+            let count = read_demands(text, next, listed, demands)?;
+            Ok(Reading {
+                threshold: first.first,
+                count,
+            })
+        }
+        Err(Unread::TooLarge) => {
+            read_demands(text, next, listed, demands)?;
+            Err(Unread::TooLarge)
+        }
+        Err(Unread::NoForm) => Err(Unread::NoForm),
     }
-    read_demands(text, next, first, listed, demands)
 }
 
 // Writes the line of each id and its rate, in the order of the list.
@@ -113,11 +98,9 @@ fn put_rates(listed: &[u32], rates: &[u32], out: &mut [u8]) -> usize
     requires { (length listed.now ≤ ids) × (length listed.now ≤ length rates.now) × (sheet_room ≤ length out.old) }
     ensures { Appended (rate_lines listed.now rates.now) out.old 0 out.new result }
 {
-    let mut at: usize = 0;
-    let mut i = 0;
-    while i < listed.len() {
-        at = printer::print_rate(out, at, listed[i], rates[i]);
-        i += 1;
+    let mut at = 0;
+    for (id, rate) in listed.iter().zip(rates) {
+        at = printer::print_rate(out, at, *id, *rate);
     }
     at
 }
@@ -149,10 +132,10 @@ pub fn print(text: &[u8], out: &mut [u8]) -> usize
     }
     let mut listed = [0u32; ROWS];
     let mut demands = [0u32; ROWS];
-    let reading = read(text, &mut listed, &mut demands);
-    if reading.refused != FITS {
-        return printer::print_refused(out, 0, reading.refused);
-    }
+    let reading = match read(text, &mut listed, &mut demands) {
+        Ok(reading) => reading,
+        Err(unread) => return printer::print_refused(out, 0, unread.number()),
+    };
     let count = reading.count;
     if count > ROWS {
         return printer::print_refused(out, 0, UNFAIR);

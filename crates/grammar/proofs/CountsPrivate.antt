@@ -11,8 +11,8 @@ use Rattle.definitions.specs.History.{History, start, scheduler, after, answer_a
 use Rattle.definitions.specs.Counts.{Whole, whole_new, whole_after}
 use Rattle.definitions.specs.Counted.{counts_behind}
 use Rattle.definitions.proofs.ChosenSheet.{sheet_same}
-use Rattle.grammar.specs.declared.Line.{Line}
-use Rattle.grammar.specs.declared.Line.TheVariants.{Form, Refused as Unread}
+use Rattle.grammar.specs.Unread.{Line}
+use Rattle.std.specs.Prelude.{Ok, Err}
 use Rattle.grammar.specs.Bytes.{line_feed, Unbroken}
 use Rattle.grammar.specs.Grammar.{parsed}
 use Rattle.grammar.specs.Printout.{whole_by, left_from_in, whole_from}
@@ -27,8 +27,8 @@ whole_at h = record { core = after scheduler h; counts = counts_behind h }
 
 whole_heard : (h : History) (l : Line) → whole_by (whole_at h) l ≡ whole_at (heard h l)
 unfolding whole_at whole_by whole_after heard after answer_at counts_behind
-whole_heard h (Form call) = refl
-whole_heard h (Unread n) = refl
+whole_heard h (Ok call) = refl
+whole_heard h (Err unread) = refl
 
 -- what a closed line tells, and bytes behind the last line feed
 told_closed : (h : History) (line text : List ℕ) → Unbroken line

@@ -15,8 +15,9 @@ use Rattle.definitions.specs.Counts.{whole_new}
 use Rattle.definitions.specs.State.{Core, unopened}
 use Rattle.definitions.specs.declared.Answer.TheVariants.{Refused}
 use Rattle.definitions.proofs.Laws.Tests.{true-false, eqb-cases, or-false}
-use Rattle.grammar.specs.declared.Line.{Line}
-use Rattle.grammar.specs.declared.Line.TheVariants.{Form, Refused as Unread}
+use Rattle.grammar.specs.Unread.{Line}
+use Rattle.std.specs.Prelude.{Ok, Err}
+use Rattle.grammar.specs.declared.Unread.TheVariants.{TooLarge}
 use Rattle.grammar.specs.declared.Audience.{Audience}
 use Rattle.grammar.specs.declared.Audience.TheVariants.{Caller}
 use Rattle.grammar.specs.Bytes.{line_feed, text_limit}
@@ -38,7 +39,7 @@ arrival-limits handles = refl
 
 -- what an arrival's numbers make, as they fit or do not
 arrival_if : List ℕ → Bool → Line
-arrival_if numbers fit = cond fit (Form (arrival.makes numbers)) (Unread 17)
+arrival_if numbers fit = cond fit (Ok (arrival.makes numbers)) (Err TooLarge)
 
 sized-arrival : (handles : ℕ) (numbers : List ℕ)
     → sized_in handles arrival numbers ≡ arrival_if numbers (numbers_fit (arrival_limits handles) numbers)
@@ -130,12 +131,12 @@ arrival-rule =
     Memᴰ.tail (Memᴰ.tail (Memᴰ.tail (Memᴰ.tail (Memᴰ.tail (Memᴰ.tail (Memᴰ.tail
     (Memᴰ.head refl)))))))
 
-long_line_lem : (limit : ℕ) (line : List ℕ) → longer limit line ≡ true → parsed_in limit line ≡ Unread 17
+long_line_lem : (limit : ℕ) (line : List ℕ) → longer limit line ≡ true → parsed_in limit line ≡ Err TooLarge
 unfolding longer parsed_in arrival_if
 long_line_lem limit line long = go (matched arrival.template line) refl long
   where
     go : (found : Option (List ℕ)) → matched arrival.template line ≡ found → handle_above limit found ≡ true
-        → parsed_in limit line ≡ Unread 17
+        → parsed_in limit line ≡ Err TooLarge
     go none f above = true-false above refl
     go (some numbers) f above =
         fitting_read limit arrival-rule rules_separate line f

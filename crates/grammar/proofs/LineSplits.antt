@@ -11,7 +11,8 @@ use Rattle.definitions.specs.declared.Answer.{Answer}
 use Rattle.definitions.specs.declared.Answer.TheVariants.{Accepted, Refused, Slot}
 use Rattle.definitions.specs.Answers.{values}
 use Rattle.definitions.proofs.Laws.Tests.{true-false}
-use Rattle.grammar.specs.declared.Line.TheVariants.{Refused as Unread}
+use Rattle.std.specs.Prelude.{Err}
+use Rattle.grammar.specs.declared.Unread.TheVariants.{NoForm}
 use Rattle.grammar.specs.Bytes.{bytes, line_feed, Unbroken}
 use Rattle.grammar.specs.Numerals.{decimal}
 use Rattle.grammar.specs.Templates.{is_gap, filled}
@@ -62,7 +63,7 @@ pub held_closed : (bs : List ℕ) → Unbroken bs → held (bs ++ line_feed ∷ 
 unfolding held_from
 held_closed bs whole = held_on [] bs (line_feed ∷ []) whole
 
-pub held_open : (bs : List ℕ) → Unbroken bs → held bs ≡ Unread 16
+pub held_open : (bs : List ℕ) → Unbroken bs → held bs ≡ Err NoForm
 unfolding held_from
 held_open bs whole = ap held (sym (append-nil bs)) ∙ held_on [] bs [] whole
 

@@ -10,8 +10,9 @@ use lib.Dec.{eqb}
 use borrow.Author.Tests.{ne_eqb}
 use Rattle.definitions.specs.State.{Core}
 use Rattle.definitions.specs.Counts.{Whole, whole_after}
-use Rattle.grammar.specs.declared.Line.{Line}
-use Rattle.grammar.specs.declared.Line.TheVariants.{Form, Refused as Unread}
+use Rattle.grammar.specs.Unread.{Line}
+use Rattle.std.specs.Prelude.{Ok, Err}
+use Rattle.grammar.specs.declared.Unread.TheVariants.{NoForm}
 use Rattle.grammar.specs.declared.Audience.{Audience}
 use Rattle.grammar.specs.Bytes.{line_feed, Unbroken}
 use Rattle.grammar.specs.Grammar.{parsed_in}
@@ -45,7 +46,7 @@ module _ (handles : ℕ) (to : Audience) (core : Core) where
       ≡ shown to core (parsed_in handles line) ++ printed_from_in handles to (answered core (parsed_in handles line)).core [] text
   line_closed line text whole = read [] line (line_feed ∷ text) whole ∙ closes line text
 
-  pub line_open : (b : ℕ) (bs : List ℕ) → Unbroken (b ∷ bs) → printed_from_in handles to core [] (b ∷ bs) ≡ shown to core (Unread 16)
+  pub line_open : (b : ℕ) (bs : List ℕ) → Unbroken (b ∷ bs) → printed_from_in handles to core [] (b ∷ bs) ≡ shown to core (Err NoForm)
   unfolding printed_from_in
   line_open b bs whole =
       ap (printed_from_in handles to core []) (sym (append-nil (b ∷ bs))) ∙ read [] (b ∷ bs) [] whole
@@ -89,8 +90,8 @@ whole_core handles w line (b ∷ text) =
     (whole_core handles w (line ++ (b ∷ [])) text)
   where
     by_line_lem : (l : Line) → (whole_by w l).core ≡ core_by w.core l
-    by_line_lem (Form call) = refl
-    by_line_lem (Unread n) = refl
+    by_line_lem (Ok call) = refl
+    by_line_lem (Err unread) = refl
 
     go : (fed : Bool) (x y : Whole) {p q : Core} → x.core ≡ p → y.core ≡ q
         → (elim fed as (λ t. Whole) [ true ↦ x | false ↦ y ]).core ≡ elim fed [ true ↦ p | false ↦ q ]

@@ -10,8 +10,9 @@ use lib.ListN.{length}
 use borrow.Author.Tests.{eqb-true, eqb-false, le-ltb}
 use Rattle.definitions.specs.State.{Core}
 use Rattle.definitions.specs.History.{History, start, scheduler, after}
-use Rattle.grammar.specs.declared.Line.{Line}
-use Rattle.grammar.specs.declared.Line.TheVariants.{Form, Refused as Unread}
+use Rattle.grammar.specs.Unread.{Line}
+use Rattle.std.specs.Prelude.{Ok, Err}
+use Rattle.grammar.specs.declared.Unread.TheVariants.{NoForm}
 use Rattle.grammar.specs.declared.Audience.{Audience}
 use Rattle.grammar.specs.Bytes.{line_feed, Unbroken, text_limit}
 use Rattle.grammar.specs.Grammar.{parsed}
@@ -21,8 +22,8 @@ use Rattle.grammar.proofs.LineSplits.{closed_line, open_line, held_closed, held_
 
 line_heard : (h : History) (l : Line) → (answered (after scheduler h) l).core ≡ after scheduler (heard h l)
 unfolding answered heard after
-line_heard h (Form call) = refl
-line_heard h (Unread n) = refl
+line_heard h (Ok call) = refl
+line_heard h (Err unread) = refl
 
 pub unbroken_append : (line : List ℕ) (b : ℕ) → Unbroken line → b ≢ line_feed → Unbroken (line ++ (b ∷ []))
 unbroken_append [] b whole other = (other, tt)
@@ -47,12 +48,12 @@ module _ (to : Audience) where
       ∙ first_printed h (line ++ line_feed ∷ []) (lines text) (parsed line) (held_closed line whole)
 
   open_printed : (h : History) (b : ℕ) (line : List ℕ) → Unbroken (b ∷ line)
-      → all_of h (lines (b ∷ line)) ≡ shown to (after scheduler h) (Unread 16)
+      → all_of h (lines (b ∷ line)) ≡ shown to (after scheduler h) (Err NoForm)
   unfolding all_of flatten printed_lines heard
   open_printed h b line whole =
       ap (all_of h) (open_line b line whole)
-      ∙ first_printed h (b ∷ line) [] (Unread 16) (held_open (b ∷ line) whole)
-      ∙ append-nil (shown to (after scheduler h) (Unread 16))
+      ∙ first_printed h (b ∷ line) [] (Err NoForm) (held_open (b ∷ line) whole)
+      ∙ append-nil (shown to (after scheduler h) (Err NoForm))
 
   -- what is left of a text, with the bytes of the line so far
   text_printed : (h : History) (line text : List ℕ) → Unbroken line

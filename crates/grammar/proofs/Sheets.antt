@@ -11,8 +11,8 @@ use Rattle.definitions.specs.State.{Core}
 use Rattle.definitions.specs.History.{History, start, ◌then◌, Place, end, before, calls, Dealing, Trace, Holdings, scheduler, after, answer_at, dealing_at, trace_of}
 use Rattle.definitions.specs.Sameness.{kept, log, answers_of, SameDealings, LooksSame, Sameness}
 use Rattle.definitions.proofs.Sameness.Theorem.{sameness}
-use Rattle.grammar.specs.declared.Line.{Line}
-use Rattle.grammar.specs.declared.Line.TheVariants.{Form, Refused as Unread}
+use Rattle.grammar.specs.Unread.{Line}
+use Rattle.std.specs.Prelude.{Ok, Err}
 use Rattle.grammar.specs.declared.Audience.TheVariants.{Caller}
 use Rattle.grammar.specs.Bytes.{text_limit}
 use Rattle.grammar.specs.Calls.{event_of}
@@ -60,10 +60,10 @@ module _ (chosen : ℕ) (which : Trace → Dealing → Bool) where
   line_noted : (h : History) (l : Line)
       → reverse_aux (noted chosen which h l (shown Caller (after scheduler h) l)) (printed_log h) ≡ printed_log (heard h l)
   unfolding noted shown answered answer_at heard printed_log log trace_of dealing_at
-  line_noted h (Form call) =
+  line_noted h (Ok call) =
       noted_if (which (trace_of scheduler h) (dealing_at scheduler h (event_of call)))
       (calls (kept chosen (trace_of scheduler h)), printed (answer_at scheduler h (event_of call))) (printed_log h)
-  line_noted h (Unread n) = refl
+  line_noted h (Err unread) = refl
 
   rows_noted : (h : History) (m : ℕ) (ls : List (List ℕ))
       → reverse_aux (noted_from chosen which h (take m (rows_of h ls))) (printed_log h) ≡ printed_log (told_from h (take m ls))
@@ -112,8 +112,8 @@ place_through p (before q) = before (place_through p q)
 
 heard_place : (h : History) (l : Line) → Place h (heard h l)
 unfolding heard
-heard_place h (Form call) = before end
-heard_place h (Unread n) = end
+heard_place h (Ok call) = before end
+heard_place h (Err unread) = end
 
 told_place : (h : History) (m : ℕ) (ls : List (List ℕ)) → Place (told_from h (take m ls)) (told_from h ls)
 unfolding told_from

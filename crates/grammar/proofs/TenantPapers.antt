@@ -12,8 +12,8 @@ use Rattle.definitions.specs.Sameness.{is_tick}
 use Rattle.definitions.specs.Notes.{operator_note, tenant_note}
 use Rattle.definitions.specs.TenantSheet.{notes_of}
 use Rattle.definitions.proofs.Sameness.TenantSheets.{sheet_same}
-use Rattle.grammar.specs.declared.Line.{Line}
-use Rattle.grammar.specs.declared.Line.TheVariants.{Form, Refused as Unread}
+use Rattle.grammar.specs.Unread.{Line}
+use Rattle.std.specs.Prelude.{Ok, Err}
 use Rattle.grammar.specs.declared.Audience.{Audience}
 use Rattle.grammar.specs.declared.Audience.TheVariants.{Operator, Tenant}
 use Rattle.grammar.specs.Bytes.{text_limit}
@@ -40,8 +40,8 @@ module _ (to : Audience) (note : Core → Note)
       tick false = unfold paper in sym (append-nil (paper h))
 
       added : (l : Line) → paper (heard h l) ≡ paper h ++ for_tick l (sentence (note (after scheduler h)))
-      added (Form call) = unfold paper heard notes_of in tick (is_tick (event_of call))
-      added (Unread n) = unfold heard in sym (append-nil (paper h))
+      added (Ok call) = unfold paper heard notes_of in tick (is_tick (event_of call))
+      added (Err unread) = unfold heard in sym (append-nil (paper h))
 
   lines_added : (h : History) (ls : List (List ℕ)) → paper h ++ flatten (printed_lines to h ls) ≡ paper (told_from h ls)
   unfolding flatten printed_lines told_from

@@ -6,8 +6,9 @@ use Rattle.std.proofs.Math.Option.{Option, none, some}
 use Rattle.grammar.specs.declared.Call.{Call}
 use Rattle.grammar.specs.declared.Call.TheVariants.{Open, Join, Change, Leave, Load, Arrive, Tick}
 use Rattle.definitions.specs.Sizes.{handle_limit, indifferent_kind, private_kind}
-use Rattle.grammar.specs.declared.Line.{Line}
-use Rattle.grammar.specs.declared.Line.TheVariants.{Form, Refused}
+use Rattle.grammar.specs.Unread.{Line}
+use Rattle.std.specs.Prelude.{Ok, Err}
+use Rattle.grammar.specs.declared.Unread.TheVariants.{NoForm, TooLarge}
 use Rattle.grammar.specs.Bytes.{bytes}
 use Rattle.grammar.specs.Templates.{limits_in, numbers_fit, matched, Phrase}
 
@@ -67,7 +68,7 @@ module _ (handles : ℕ) where
   -- "right shape, but a number above 4294967295"; "Number 17 uses that limit for handles and the former one elsewhere" (paper 02,
   -- S-6)
   unfoldable pub sized_in : Rule → List ℕ → Line
-  sized_in r numbers = cond (numbers_fit (limits_in handles r.template) numbers) (Form (r.makes numbers)) (Refused 17)
+  sized_in r numbers = cond (numbers_fit (limits_in handles r.template) numbers) (Ok (r.makes numbers)) (Err TooLarge)
 
   -- shape is judged before size: the first rule that fits decides, and "not a form of the grammar" is 16
   abbrev pub or_else_in : Rule → Option (List ℕ) → Line → Line
@@ -75,7 +76,7 @@ module _ (handles : ℕ) where
   or_else_in r (some numbers) line = sized_in r numbers
 
   unfoldable pub parsed_by_in : List Rule → List ℕ → Line
-  parsed_by_in [] line = Refused 16
+  parsed_by_in [] line = Err NoForm
   parsed_by_in (r ∷ rs) line = or_else_in r (matched r.template line) (parsed_by_in rs line)
 
   unfoldable pub parsed_in : List ℕ → Line

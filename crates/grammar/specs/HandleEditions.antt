@@ -7,7 +7,8 @@ use Rattle.std.proofs.Math.Option.{Option, none, some}
 use Rattle.definitions.specs.State.{Core}
 use Rattle.definitions.specs.Counts.{Whole, whole_new}
 use Rattle.definitions.specs.declared.Answer.TheVariants.{Refused}
-use Rattle.grammar.specs.declared.Line.TheVariants.{Refused as Unread}
+use Rattle.std.specs.Prelude.{Err}
+use Rattle.grammar.specs.declared.Unread.TheVariants.{TooLarge}
 use Rattle.grammar.specs.declared.Audience.{Audience}
 use Rattle.grammar.specs.declared.Audience.TheVariants.{Caller}
 use Rattle.grammar.specs.Bytes.{line_feed, Unbroken}
@@ -44,7 +45,7 @@ pub record HandleEditions : Type 0 where
   pub same_whole : (older newer : ℕ) → older ≤ newer → (text : List ℕ) → longer_from older [] text ≡ false
       → left_from_in older whole_by whole_new [] text ≡ left_from_in newer whole_by whole_new [] text
   -- a line with a longer handle is 17
-  pub long_line : (limit : ℕ) (line : List ℕ) → longer limit line ≡ true → parsed_in limit line ≡ Unread 17
+  pub long_line : (limit : ℕ) (line : List ℕ) → longer limit line ≡ true → parsed_in limit line ≡ Err TooLarge
   -- So where such a line, closed by its line feed, comes up in what is left of a text, 17 is printed for the caller, and the text goes
   -- on with core and counts as they were.
   pub long_printed : (limit : ℕ) (core : Core) (line text : List ℕ) → Unbroken line → longer limit line ≡ true

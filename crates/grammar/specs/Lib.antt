@@ -3,6 +3,7 @@ pub mod Bytes
 pub mod Numerals
 pub mod Templates
 pub mod Calls
+pub mod Unread
 pub mod Grammar
 pub mod RoundTrip
 pub mod AnswerLines

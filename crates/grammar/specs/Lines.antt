@@ -2,8 +2,9 @@
 -- each that holds a form, and the lines of its printout, of which the n-th answers the n-th of a text of at most 60,000 bytes.
 use Rattle.std.specs.Prelude.{ℕ, ◌≤◌, ◌≡◌, true, false, cond, List, [], ◌∷◌, ◌++◌, eqb, length}
 use Rattle.definitions.specs.History.{History, start, ◌then◌, scheduler, after}
-use Rattle.grammar.specs.declared.Line.{Line}
-use Rattle.grammar.specs.declared.Line.TheVariants.{Form, Refused as Unread}
+use Rattle.grammar.specs.Unread.{Line}
+use Rattle.std.specs.Prelude.{Ok, Err}
+use Rattle.grammar.specs.declared.Unread.TheVariants.{NoForm}
 use Rattle.grammar.specs.declared.Audience.{Audience}
 use Rattle.grammar.specs.declared.Audience.TheVariants.{Caller}
 use Rattle.grammar.specs.Bytes.{line_feed, text_limit}
@@ -23,7 +24,7 @@ lines (b ∷ text) = cond (eqb b line_feed) ((b ∷ []) ∷ lines text) (at_fron
 
 -- what a line of a text holds: "bytes after the last line feed, give 16"
 unfoldable pub held_from : List ℕ → List ℕ → Line
-held_from line [] = Unread 16
+held_from line [] = Err NoForm
 held_from line (b ∷ bs) = elim (eqb b line_feed) [ true ↦ parsed line | false ↦ held_from (line ++ (b ∷ [])) bs ]
 
 abbrev pub held : List ℕ → Line
@@ -31,8 +32,8 @@ held line = held_from [] line
 
 -- the history behind a line: one that holds no form is no call
 unfoldable pub heard : History → Line → History
-heard h (Form call) = h then event_of call
-heard h (Unread n) = h
+heard h (Ok call) = h then event_of call
+heard h (Err unread) = h
 
 unfoldable pub told_from : History → List (List ℕ) → History
 told_from h [] = h

@@ -9,8 +9,9 @@ use Rattle.definitions.specs.Core.{step}
 use Rattle.definitions.specs.Counts.{Whole, whole_after}
 use Rattle.definitions.specs.Sameness.{is_tick}
 use Rattle.definitions.specs.Notes.{operator_note, tenant_note}
-use Rattle.grammar.specs.declared.Line.{Line}
-use Rattle.grammar.specs.declared.Line.TheVariants.{Form, Refused as Unread}
+use Rattle.grammar.specs.Unread.{Line, unread_number}
+use Rattle.std.specs.Prelude.{Ok, Err}
+use Rattle.grammar.specs.declared.Unread.TheVariants.{NoForm}
 use Rattle.grammar.specs.declared.Audience.{Audience}
 use Rattle.grammar.specs.declared.Audience.TheVariants.{Caller, Operator, Tenant}
 use Rattle.grammar.specs.Bytes.{line_feed, text_limit}
@@ -21,13 +22,13 @@ unfoldable pub use Rattle.grammar.specs.AnswerLines.{outcome_template, printed}
 
 -- "A line that yields no form is answered and skipped."
 unfoldable pub answered : Core → Line → Result
-answered core (Form call) = step core (event_of call)
-answered core (Unread n) = refused n core
+answered core (Ok call) = step core (event_of call)
+answered core (Err unread) = refused (unread_number unread) core
 
 -- some bytes where a line holds a tick, and none where it does not
 abbrev pub for_tick : Line → List ℕ → List ℕ
-for_tick (Form call) sentence = cond (is_tick (event_of call)) sentence []
-for_tick (Unread n) sentence = []
+for_tick (Ok call) sentence = cond (is_tick (event_of call)) sentence []
+for_tick (Err unread) sentence = []
 
 -- what a line prints on a core, by what it holds
 unfoldable pub shown : Audience → Core → Line → List ℕ
@@ -40,7 +41,7 @@ module _ (handles : ℕ) (to : Audience) where
   -- The printout of what is left of a text, with the bytes of the line so far, for a core. Bytes after the last line feed give 16.
   unfoldable pub printed_from_in : Core → List ℕ → List ℕ → List ℕ
   printed_from_in core [] [] = []
-  printed_from_in core (b ∷ line) [] = shown to core (Unread 16)
+  printed_from_in core (b ∷ line) [] = shown to core (Err NoForm)
   printed_from_in core line (b ∷ text) =
       elim (eqb b line_feed) [
         | true ↦ shown to core (parsed_in handles line)
@@ -57,8 +58,8 @@ abbrev pub core_by : Core → Line → Core
 core_by core line = (answered core line).core
 
 unfoldable pub whole_by : Whole → Line → Whole
-whole_by w (Form call) = whole_after w (event_of call)
-whole_by w (Unread n) = w
+whole_by w (Ok call) = whole_after w (event_of call)
+whole_by w (Err unread) = w
 
 module _ (handles : ℕ) {A : Type 0} (by : A → Line → A) where
   -- What the lines of what is left of a text leave, likewise. Bytes after the last line feed leave it as it was.

@@ -3,7 +3,8 @@
 -- S-6), is read as 17. Both hold in every edition, whatever its limit for handles; the present one is that of `handle_limit`.
 use Rattle.std.specs.Prelude.{ℕ, ◌≡◌, true, false, length}
 use mathlib.Core.List.{List, Memᴰ}
-use Rattle.grammar.specs.declared.Line.TheVariants.{Form, Refused}
+use Rattle.std.specs.Prelude.{Ok, Err}
+use Rattle.grammar.specs.declared.Unread.TheVariants.{TooLarge as Above}
 use Rattle.grammar.specs.Templates.{limits_in, gaps, numbers_fit, filled}
 use Rattle.grammar.specs.Grammar.{Rule, rules, parsed_in}
 
@@ -22,7 +23,7 @@ RoundTrip =
     → (numbers : List ℕ)
     → Takes r numbers
     → numbers_fit (limits_in handles r.template) numbers ≡ true
-    → parsed_in handles (written r numbers) ≡ Form (r.makes numbers)
+    → parsed_in handles (written r numbers) ≡ Ok (r.makes numbers)
 
 unfoldable pub TooLarge : Type 0
 TooLarge =
@@ -31,4 +32,4 @@ TooLarge =
     → (numbers : List ℕ)
     → Takes r numbers
     → numbers_fit (limits_in handles r.template) numbers ≡ false
-    → parsed_in handles (written r numbers) ≡ Refused 17
+    → parsed_in handles (written r numbers) ≡ Err Above

@@ -5,8 +5,8 @@ use Rattle.std.specs.Prelude.{ℕ, ◌≤◌, ◌≡◌, Bool, true, cond, ◌&&
 use mathlib.Core.List.{List, [], ◌∷◌, ◌++◌, zip}
 use Rattle.definitions.specs.History.{History, start, calls, Dealing, Trace, scheduler, dealing_at, trace_of}
 use Rattle.definitions.specs.Sameness.{is_setting, names, indifferent_at, kept, departure}
-use Rattle.grammar.specs.declared.Line.{Line}
-use Rattle.grammar.specs.declared.Line.TheVariants.{Form, Refused as Unread}
+use Rattle.grammar.specs.Unread.{Line}
+use Rattle.std.specs.Prelude.{Ok, Err}
 use Rattle.grammar.specs.Bytes.{text_limit}
 use Rattle.grammar.specs.Calls.{event_of}
 use Rattle.grammar.specs.Printout.{printout}
@@ -27,10 +27,10 @@ module _ (chosen : ℕ) where
   module _ (which : Trace → Dealing → Bool) where
     -- of a line that holds such a call, the printed line beside it, with the call's number among the kept calls
     unfoldable pub noted : History → Line → List ℕ → List (ℕ × List ℕ)
-    noted h (Form call) answer =
+    noted h (Ok call) answer =
         cond (which (trace_of scheduler h) (dealing_at scheduler h (event_of call)))
         ((calls (kept chosen (trace_of scheduler h)), answer) ∷ []) []
-    noted h (Unread n) answer = []
+    noted h (Err unread) answer = []
 
     unfoldable pub noted_from : History → Sheet → List (ℕ × List ℕ)
     noted_from h [] = []

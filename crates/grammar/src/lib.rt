@@ -1,5 +1,9 @@
-// What a line of the script holds, and for whom a text is printed. The grammar and the printout stand in specs/.
+// The calls that a line of the script may hold, what a line without one is refused for, and for whom a text is printed. The grammar
+// and the printout stand in specs/.
 #![tactic(auto)]
+
+ghost use Rattle.std.specs.Prelude.{◌≡◌};
+ghost use Rattle.grammar.specs.Unread.{unread_number};
 
 use definitions::Packet;
 
@@ -40,11 +44,23 @@ pub enum Call {
     Tick,
 }
 
-// What a line holds: a form, as the call that it stands for, or the number that it is answered with.
-#[derive(Clone, Copy)]
-pub enum Line {
-    Form { call: Call },
-    Refused { number: u32 },
+// What a line is refused for that holds no call: another shape than any form, or a number above its limit.
+#[derive(Clone, Copy, PartialEq, Eq)]
+pub enum Unread {
+    NoForm,
+    TooLarge,
+}
+
+impl Unread {
+    // The number that such a line is answered with.
+    pub fn number(self) -> u32
+        ensures { result ≡ unread_number self }
+    {
+        match self {
+            Unread::NoForm => 16,
+            Unread::TooLarge => 17,
+        }
+    }
 }
 
 // For whom a text is printed: for the caller, who is given the answer to each line; or for the operator, or a private tenant, who

@@ -6,16 +6,18 @@ use mathlib.Core.Bool.{Bool, true, false, cond, not, ◌&&◌, true≢false}
 use mathlib.Core.List.{List, [], ◌∷◌, ◌++◌}
 use mathlib.Core.Option.{Option, none, some}
 use native.Mathlib.Omega.{arith}
-use borrow.Author.Tests.{leb-true, eqb-false, eq-eqb, ne_eqb, not-true}
+use borrow.Author.Tests.{leb-true, eqb-false, not-true}
 use lib.Dec.{leb, eqb}
 use lib.ListN.{length, take, drop}
 use lib.Seq.{get_or-take}
 use Rattle.definitions.proofs.Laws.Tests.{and_both}
-use Rattle.grammar.specs.declared.Line.TheVariants.{Form, Refused}
+use Rattle.std.specs.Prelude.{Ok, Err}
+use Rattle.grammar.specs.declared.Unread.{Unread}
+use Rattle.grammar.specs.declared.Unread.TheVariants.{NoForm, TooLarge}
 use Rattle.grammar.specs.Templates.{is_gap, limits, gaps, numbers_fit, matched}
 use Rattle.grammar.specs.Grammar.{Rule, nth, sized_in, or_else, parsed_by, parsed_by_in}
 use Rattle.parser.specs.Numbers.{byte_of}
-use Rattle.parser.specs.Readings.{verdict, Reads}
+use Rattle.parser.specs.Readings.{Verdict, verdict, Reads}
 use Rattle.parser.proofs.TemplateWalk.{second_misfits}
 
 -- ---- a form that was read
@@ -28,17 +30,16 @@ fits-within (l ∷ ls) [] e i h = omega arith
 fits-within (l ∷ ls) (n ∷ ns) e zero h = leb-true n l (and_both (leb n l) _ e).0
 fits-within (l ∷ ls) (n ∷ ns) e (suc i) h = fits-within ls ns (and_both (leb n l) _ e).1 i (omega arith)
 
-verdict-fits : (t ns : List ℕ) → 0 ≡ verdict t (some ns) → numbers_fit (limits t) ns ≡ true
-verdict-fits t ns e = go (numbers_fit (limits t) ns) e
+verdict-fits : (t ns : List ℕ) {x : Unit {0}} → Ok x ≡ verdict t (some ns) → numbers_fit (limits t) ns ≡ true
+verdict-fits t ns {x} e = go (numbers_fit (limits t) ns) e
   where
-    go : (b : Bool) → ◌≡◌ {A = ℕ} 0 (cond b 0 17) → b ≡ true
+    go : (b : Bool) → ◌≡◌ {A = Verdict} (Ok x) (cond b (Ok tt) (Err TooLarge)) → b ≡ true
     go true q = refl
-    go false q = absurd (omega arith)
+    go false q = absurd (cc)
 
-module _ {template line : List ℕ} {refused : ℕ} {numbers : List ℕ} (read : Reads template line refused numbers)
-    (e : refused ≡ 0) where
-  read_fits : numbers_fit (limits template) (take (gaps template) numbers) ≡ true
-  read_fits = verdict-fits template _ (sym e ∙ read.answer ∙ ap (verdict template) (read.places e))
+module _ {template line : List ℕ} {x : Unit {0}} {numbers : List ℕ} (read : Reads template line (Ok x) numbers) where
+  pub read_fits : numbers_fit (limits template) (take (gaps template) numbers) ≡ true
+  read_fits = verdict-fits template _ (read.answer ∙ ap (verdict template) read.places)
 
   -- the numbers are the first of what was lent
   pub read_placed : (i : ℕ) → i < gaps template → nth (take (gaps template) numbers) i ≡ nth numbers i
@@ -47,51 +48,54 @@ module _ {template line : List ℕ} {refused : ℕ} {numbers : List ℕ} (read :
   pub read_within : (i : ℕ) → i < gaps template → nth numbers i ≤ nth (limits template) i
   read_within i h = fits-within (limits template) numbers read_fits i h
 
-module _ (r : Rule) (rs : List Rule) (line : List ℕ) {refused : ℕ} {numbers : List ℕ}
-    (read : Reads r.template line refused numbers) where
-  pub rule_fits : refused ≡ 0 → parsed_by (r ∷ rs) line ≡ Form (r.makes (take (gaps r.template) numbers))
+-- where no form is left, the line is none
+pub no_rule : (line : List ℕ) → parsed_by [] line ≡ Err NoForm
+unfolding parsed_by_in
+no_rule line = refl
+
+module _ (r : Rule) (rs : List Rule) (line : List ℕ) {numbers : List ℕ} where
+  pub rule_fits : {x : Unit {0}} → Reads r.template line (Ok x) numbers
+      → parsed_by (r ∷ rs) line ≡ Ok (r.makes (take (gaps r.template) numbers))
   unfolding parsed_by_in sized_in
-  rule_fits e = rw (read.places e, read_fits read e)
+  rule_fits read = rw (read.places, read_fits read)
 
   -- a form that is refused has a number that is too large, or leaves the line to those behind it
-  rule-refused : (refused ≡ 0 → ⊥) → parsed_by (r ∷ rs) line ≡ cond (eqb refused 17) (Refused 17) (parsed_by rs line)
+  pub rule_large : Reads r.template line (Err TooLarge) numbers → parsed_by (r ∷ rs) line ≡ Err TooLarge
   unfolding parsed_by_in sized_in
-  rule-refused ne = rw read.answer (go (matched r.template line) read.answer)
+  rule_large read = go (matched r.template line) read.answer
     where
-      go : (found : Option (List ℕ)) → refused ≡ verdict r.template found
-          → or_else r found (parsed_by rs line) ≡ cond (eqb (verdict r.template found) 17) (Refused 17) (parsed_by rs line)
+      go : (found : Option (List ℕ)) → Err TooLarge ≡ verdict r.template found
+          → or_else r found (parsed_by rs line) ≡ Err TooLarge
+      go none q = absurd (cc)
+      go (some ns) q = size (numbers_fit (limits r.template) ns) q
+        where
+          size : (b : Bool) → ◌≡◌ {A = Verdict} (Err TooLarge) (cond b (Ok tt) (Err TooLarge))
+              → cond b (Ok (r.makes ns)) (Err TooLarge) ≡ Err TooLarge
+          size true q = absurd (cc)
+          size false q = refl
+
+  pub rule_off : Reads r.template line (Err NoForm) numbers → parsed_by (r ∷ rs) line ≡ parsed_by rs line
+  unfolding parsed_by_in
+  rule_off read = go (matched r.template line) read.answer
+    where
+      go : (found : Option (List ℕ)) → Err NoForm ≡ verdict r.template found
+          → or_else r found (parsed_by rs line) ≡ parsed_by rs line
       go none q = refl
       go (some ns) q = size (numbers_fit (limits r.template) ns) q
         where
-          size : (b : Bool) → refused ≡ cond b 0 17
-              → cond b (Form (r.makes ns)) (Refused 17) ≡ cond (eqb (cond b 0 17) 17) (Refused 17) (parsed_by rs line)
-          size true q = absurd (ne q)
-          size false q = refl
-
-  pub rule_large : refused ≡ 17 → parsed_by (r ∷ rs) line ≡ Refused 17
-  rule_large e = rule-refused (λ z. omega arith) ∙ rw (eq-eqb refused 17 e)
-
-  pub rule_off : (refused ≡ 0 → ⊥) → (refused ≡ 17 → ⊥) → parsed_by (r ∷ rs) line ≡ parsed_by rs line
-  rule_off ne small = rule-refused ne ∙ rw (ne_eqb refused 17 small)
+          size : (b : Bool) → ◌≡◌ {A = Verdict} (Err NoForm) (cond b (Ok tt) (Err TooLarge))
+              → or_else r (some ns) (parsed_by rs line) ≡ parsed_by rs line
+          size true q = absurd (cc)
+          size false q = absurd (cc)
 
 -- a line that can have one form only
-pub only_refused : (r : Rule) (line : List ℕ) {refused : ℕ} {numbers : List ℕ} → Reads r.template line refused numbers
-    → (refused ≡ 0 → ⊥) → parsed_by (r ∷ []) line ≡ Refused refused
-unfolding parsed_by_in sized_in
-only_refused r line {refused} read ne = go (matched r.template line) read.answer
+pub only_refused : (r : Rule) (line : List ℕ) {unread : Unread} {numbers : List ℕ} → Reads r.template line (Err unread) numbers
+    → parsed_by (r ∷ []) line ≡ Err unread
+only_refused r line {unread} read = go unread read
   where
-    go : (found : Option (List ℕ)) → refused ≡ verdict r.template found → or_else r found (Refused 16) ≡ Refused refused
-    go none q = ap Refused (sym q)
-    go (some ns) q = size (numbers_fit (limits r.template) ns) q
-      where
-        size : (b : Bool) → refused ≡ cond b 0 17 → cond b (Form (r.makes ns)) (Refused 17) ≡ Refused refused
-        size true q = absurd (ne q)
-        size false q = ap Refused (sym q)
-
--- where no form is left, the line is none
-pub no_rule : (line : List ℕ) → parsed_by [] line ≡ Refused 16
-unfolding parsed_by_in
-no_rule line = refl
+    go : (u : Unread) {numbers : List ℕ} → Reads r.template line (Err u) numbers → parsed_by (r ∷ []) line ≡ Err u
+    go NoForm read = rule_off r [] line read ∙ no_rule line
+    go TooLarge read = rule_large r [] line read
 
 -- a form that does not fit leaves the line to those behind it, and one without numbers has none that is too large
 pub rule_missed : (r : Rule) (rs : List Rule) (line : List ℕ) → matched r.template line ≡ none
@@ -100,12 +104,12 @@ unfolding parsed_by_in
 rule_missed r rs line e = rw e
 
 pub rule-bare : (r : Rule) (rs : List Rule) (line : List ℕ) → matched r.template line ≡ some [] → limits r.template ≡ []
-    → parsed_by (r ∷ rs) line ≡ Form (r.makes [])
+    → parsed_by (r ∷ rs) line ≡ Ok (r.makes [])
 unfolding parsed_by_in sized_in numbers_fit
 rule-bare r rs line e bare = rw (e, bare)
 
 -- what stands behind the forms that are tried does not matter where it gives 16
-pub behind-none : (rs after : List Rule) (line : List ℕ) → parsed_by after line ≡ Refused 16
+pub behind-none : (rs after : List Rule) (line : List ℕ) → parsed_by after line ≡ Err NoForm
     → parsed_by (rs ++ after) line ≡ parsed_by rs line
 unfolding parsed_by_in
 behind-none [] after line e = e

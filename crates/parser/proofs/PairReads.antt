@@ -6,33 +6,36 @@ use mathlib.Core.Bool.{Bool, true, false, cond}
 use mathlib.Core.List.{List, [], ◌∷◌}
 use mathlib.Core.Option.{Option, none, some}
 use lib.ListN.{take}
+use Rattle.std.specs.Prelude.{Ok, Err}
+use Rattle.grammar.specs.declared.Unread.{Unread}
+use Rattle.grammar.specs.declared.Unread.TheVariants.{TooLarge}
 use Rattle.grammar.specs.Templates.{limits, gaps, numbers_fit, matched}
 use Rattle.grammar.specs.Grammar.{nth}
-use Rattle.parser.specs.Readings.{verdict, Reads}
-use Rattle.parser.specs.Pairs.{pair, no_pair, pair_found, pair_of, pair_from}
+use Rattle.parser.specs.Readings.{Verdict, verdict, Reads}
+use Rattle.parser.specs.Pairs.{pair, pair_found, pair_of}
+use Rattle.parser.proofs.Forms.{read_fits}
 
 -- where a form has one number, there is no second
 pub one-alone : (numbers : List ℕ) → nth (take 1 numbers) 1 ≡ 0
 one-alone [] = refl
 one-alone (n ∷ ns) = refl
 
-module _ {form line : List ℕ} {refused : ℕ} {numbers : List ℕ} (read : Reads form line refused numbers) (first second : ℕ) where
-  -- the numbers are the form's, where nothing refuses the line
-  abbrev Those : Type 0
-  Those = (nth (take (gaps form) numbers) 0 ≡ first) × (nth (take (gaps form) numbers) 1 ≡ second)
-
-  pub read_pair : (refused ≡ 0 → Those) → pair_from refused first second ≡ pair_of form line
+module _ {form line : List ℕ} {numbers : List ℕ} where
+  pub pair_refused : {unread : Unread} → Reads form line (Err unread) numbers → Err unread ≡ pair_of form line
   unfolding pair_of
-  read_pair those = go (matched form line) refl read.answer
+  pair_refused {unread} read = go (matched form line) read.answer
     where
-      go : (found : Option (List ℕ)) → matched form line ≡ found → refused ≡ verdict form found
-          → pair_from refused first second ≡ pair_found form found
-      go none e q = rw q
-      go (some ns) e q = size (numbers_fit (limits form) ns) q
+      go : (found : Option (List ℕ)) → Err unread ≡ verdict form found → Err unread ≡ pair_found form found
+      go none e = cc
+      go (some ns) e = size (numbers_fit (limits form) ns) e
         where
-          size : (b : Bool) → refused ≡ cond b 0 17
-              → pair_from refused first second ≡ cond b (pair (nth ns 0) (nth ns 1)) (no_pair 17)
-          size true q =
-              let same : ns ≡ take (gaps form) numbers = cc (e, read.places q) in
-              rw (q, same, (those q).0, (those q).1)
-          size false q = rw q
+          size : (b : Bool) → ◌≡◌ {A = Verdict} (Err unread) (cond b (Ok tt) (Err TooLarge))
+              → Err unread ≡ cond b (Ok (pair (nth ns 0) (nth ns 1))) (Err TooLarge)
+          size true q = absurd (cc)
+          size false q = cc
+
+  -- the numbers are the form's
+  pub pair_read : {x : Unit {0}} → Reads form line (Ok x) numbers
+      → pair_of form line ≡ Ok (pair (nth (take (gaps form) numbers) 0) (nth (take (gaps form) numbers) 1))
+  unfolding pair_of
+  pair_read read = rw (read.places, read_fits read)

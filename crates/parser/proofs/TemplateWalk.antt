@@ -12,6 +12,8 @@ use borrow.Author.Tests.{ltb-true, ltb-false, lt-leb, le-leb, eq-eqb, ne_eqb}
 use lib.Dec.{leb, ltb, eqb}
 use lib.ListN.{length, take, drop, get_or, set, length-set, drop_of_length-le}
 use lib.Seq.{drop-nil, drop-cons, drop-drop, take-suc-set}
+use Rattle.std.specs.Prelude.{Ok, Err}
+use Rattle.grammar.specs.declared.Unread.TheVariants.{NoForm, TooLarge}
 use Rattle.grammar.specs.Numerals.{leading, behind, value_from}
 use Rattle.definitions.specs.Sizes.{handle_limit}
 use Rattle.grammar.specs.Templates.{is_gap, limits, limits_in, gaps, numbers_fit, with_number, matched}
@@ -19,7 +21,7 @@ use Rattle.grammar.proofs.TemplateSteps.{limits_gap, limits_byte, gap_fits, gap_
 use Rattle.parser.specs.declared.Gap.{Gap}
 use Rattle.parser.specs.declared.Numeral.{Numeral}
 use Rattle.parser.specs.Numbers.{byte_of, Spells}
-use Rattle.parser.specs.Readings.{gap_of, verdict_from, verdict, numbers_room, Room, Reads}
+use Rattle.parser.specs.Readings.{gap_of, Verdict, verdict_from, verdict, numbers_room, Room, Reads}
 
 -- ---- a number more
 
@@ -31,7 +33,8 @@ verdict-number true l ls n (some ns) = refl
 verdict-number false l ls n (some ns) = go (ltb l n) refl
   where
     go : (t : Bool) → ltb l n ≡ t
-        → ◌≡◌ {A = ℕ} (cond (leb n l && numbers_fit ls ns) 0 17) (cond t 17 (cond (numbers_fit ls ns) 0 17))
+        → ◌≡◌ {A = Verdict} (cond (leb n l && numbers_fit ls ns) (Ok tt) (Err TooLarge))
+        (cond t (Err TooLarge) (cond (numbers_fit ls ns) (Ok tt) (Err TooLarge)))
     go true e = rw (lt-leb n l (ltb-true l n e))
     go false e = rw (le-leb n l (ltb-false l n e))
 
@@ -104,8 +107,8 @@ walked_none line from template numbers room = record {
 -- what was not found anywhere is refused by its shape
 misfit : {line : List ℕ} {from : ℕ} {template : List ℕ} {large : Bool} {numbers : List ℕ} {count at i : ℕ}
     → Walked line from template large numbers count at i → matched (drop i template) (drop at line) ≡ none
-    → Reads template (drop from line) 16 numbers
-misfit w e = record { answer = sym (w.answer ∙ rw e); places = λ z. absurd (omega arith); sized = w.room.sized }
+    → Reads template (drop from line) (Err NoForm) numbers
+misfit w e = record { answer = sym (w.answer ∙ rw e); places = tt; sized = w.room.sized }
 
 -- a turn: a byte of the template, and whether it is a gap
 pub record Turn (line : List ℕ) (from : ℕ) (template : List ℕ) (large : Bool) (numbers : List ℕ) (count at i byte : ℕ)
@@ -166,7 +169,7 @@ module _ {line : List ℕ} {from : ℕ} {template : List ℕ} {large : Bool} {nu
           either_false true b q = absurd (true≢false q)
           either_false false b q = (refl, q)
 
-      pub walked_gap_off : n.is ≡ false → Reads template (drop from line) 16 numbers
+      pub walked_gap_off : n.is ≡ false → Reads template (drop from line) (Err NoForm) numbers
       walked_gap_off e =
           misfit t.walked (rw next_byte (gap_misfits byte (drop (i + 1) template) (drop at line) is_gap_lem (sym s.right ∙ e)))
 
@@ -190,13 +193,13 @@ module _ {line : List ℕ} {from : ℕ} {template : List ℕ} {large : Bool} {nu
     pub walked_there : read ≡ byte → at < length line
     walked_there e = byte_there line at (omega (arith, t.small))
 
-    pub walked_byte_off : (read ≡ byte → ⊥) → Reads template (drop from line) 16 numbers
+    pub walked_byte_off : (read ≡ byte → ⊥) → Reads template (drop from line) (Err NoForm) numbers
     walked_byte_off e =
         misfit t.walked (rw next_byte (first_misfits byte (drop (i + 1) template) fixed (drop at line) (λ q. e (r ∙ q))))
 
 module _ {line : List ℕ} {from : ℕ} {template : List ℕ} {large : Bool} {numbers : List ℕ} {count at i : ℕ}
     (w : Walked line from template large numbers count at i) (h : length template ≤ i) where
-  pub walked-behind : at < length line → Reads template (drop from line) 16 numbers
+  pub walked-behind : at < length line → Reads template (drop from line) (Err NoForm) numbers
   unfolding matched
   walked-behind k = misfit w (rw (drop_of_length-le template h, drop-cons line at 0 k))
 
@@ -205,17 +208,17 @@ module _ {line : List ℕ} {from : ℕ} {template : List ℕ} {large : Bool} {nu
     unfolding matched
     ended = rw (drop_of_length-le template h, drop_of_length-le line k)
 
-    pub walked_large : large ≡ true → Reads template (drop from line) 17 numbers
+    pub walked_large : large ≡ true → Reads template (drop from line) (Err TooLarge) numbers
     walked_large e =
-        record { answer = sym (w.answer ∙ rw (ended, e)); places = λ z. absurd (omega arith); sized = w.room.sized }
+        record { answer = sym (w.answer ∙ rw (ended, e)); places = tt; sized = w.room.sized }
 
-    pub walked_all : large ≡ false → Reads template (drop from line) 0 numbers
+    pub walked_all : large ≡ false → Reads template (drop from line) (Ok tt) numbers
     unfolding before limits_in numbers_fit
     walked_all e =
         let none_left : limits (drop i template) ≡ [] = rw (drop_of_length-le template h) in
         let all : count ≡ gaps template = omega (arith, w.counted, ap length none_left) in
         record {
           answer = sym (w.answer ∙ rw (ended, e, none_left));
-          places = λ z. w.found e ∙ rw (ended, append-nil, all);
+          places = w.found e ∙ rw (ended, append-nil, all);
           sized = w.room.sized;
         }

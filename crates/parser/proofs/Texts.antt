@@ -12,13 +12,15 @@ use lib.ListN.{length, get_or, drop, drop_of_length-le}
 use lib.Seq.{drop-cons}
 use borrow.Author.Tests.{not-true, eqb-true, eqb-false, eq-eqb, ne_eqb}
 use Rattle.definitions.proofs.Laws.Tests.{and_both}
-use Rattle.grammar.specs.declared.Line.{Line}
-use Rattle.grammar.specs.declared.Line.TheVariants.{Refused}
+use Rattle.std.specs.Prelude.{Err}
+use Rattle.grammar.specs.declared.Unread.TheVariants.{NoForm}
+use Rattle.grammar.specs.Unread.{Line}
+use Rattle.std.proofs.lemmas.Result.{on_ok_weaker}
 use Rattle.definitions.specs.Sizes.{handle_limit}
 use Rattle.grammar.specs.Templates.{is_gap, limits, matched}
 use Rattle.grammar.specs.Grammar.{Rule, behind_text, sized_in, or_else, parsed_by, parsed_by_in}
 use Rattle.grammar.proofs.TemplateSteps.{limits_byte, byte_fits, byte_misfits}
-use Rattle.parser.specs.Readings.{verdict, numbers_room, Reads}
+use Rattle.parser.specs.Readings.{Verdict, verdict, numbers_room, Reads}
 use Rattle.parser.specs.Texts.{starts, plain}
 
 -- a line is as long as what it begins with
@@ -87,17 +89,17 @@ limits-behind (b ∷ bs) t bare =
 -- ---- a template that is read in two parts
 
 module _ (text rest line : List ℕ) (bare : plain text ≡ true) {numbers : List ℕ} where
-  pub read_other : starts text line ≡ false → length numbers ≡ numbers_room → Reads (text ++ rest) line 16 numbers
-  read_other e room = record { answer = rw (not-begun text rest line bare e); places = λ z. absurd (omega arith); sized = room }
+  pub read_other : starts text line ≡ false → length numbers ≡ numbers_room → Reads (text ++ rest) line (Err NoForm) numbers
+  read_other e room = record { answer = rw (not-begun text rest line bare e); places = tt; sized = room }
 
-  pub read_behind : starts text line ≡ true → {refused : ℕ} → Reads rest (drop (length text) line) refused numbers
-      → Reads (text ++ rest) line refused numbers
-  read_behind e {refused} r =
+  pub read_behind : starts text line ≡ true → {result : Verdict} → Reads rest (drop (length text) line) result numbers
+      → Reads (text ++ rest) line result numbers
+  read_behind e {result} r =
       let same = matched-behind text rest line bare e in
       let bounds = limits-behind text rest bare in
       record {
         answer = r.answer ∙ rw (← same) (go (matched (text ++ rest) line) bounds);
-        places = λ z. same ∙ r.places z ∙ rw bounds;
+        places = on_ok_weaker result (λ z. same ∙ z ∙ rw bounds) r.places;
         sized = r.sized;
       }
     where
@@ -108,7 +110,7 @@ module _ (text rest line : List ℕ) (bare : plain text ≡ true) {numbers : Lis
 -- ---- forms behind a text
 
 module _ (text : List ℕ) (line : List ℕ) (bare : plain text ≡ true) where
-  pub forms_other : (rs : List Rule) → starts text line ≡ false → parsed_by (behind_text text rs) line ≡ Refused 16
+  pub forms_other : (rs : List Rule) → starts text line ≡ false → parsed_by (behind_text text rs) line ≡ Err NoForm
   unfolding parsed_by_in
   forms_other [] e = refl
   forms_other (r ∷ rs) e = rw (not-begun text r.template line bare e) (forms_other rs e)

@@ -9,13 +9,13 @@ ghost use Rattle.grammar.specs.Grammar.{open_forms, join_forms, change_forms, le
 ghost use Rattle.grammar.specs.Grammar.{parsed_by, parsed};
 ghost use Rattle.grammar.specs.FairSheet.{threshold_form, demand_form};
 ghost use Rattle.parser.specs.Numbers.{byte_of, digit_of, spelled, Grows, Exceeds, Spells};
-ghost use Rattle.parser.specs.Pairs.{Narrow, pair_from, pair_of};
-ghost use Rattle.parser.specs.Readings.{gap_of, Room, Readable, Reads, no_terms, TermsRead, TermsBehind};
+ghost use Rattle.parser.specs.Pairs.{pair_of};
+ghost use Rattle.parser.specs.Readings.{gap_of, Room, Readable, Reads, TermsRead, TermsBehind};
 ghost use Rattle.parser.specs.Texts.{starts, plain};
 ghost use Rattle.parser.specs.Words.{word_of};
 
 use definitions::{HANDLE_LIMIT, INDIFFERENT, NUMBER_LIMIT, PRIVATE, Packet};
-use grammar::{Call, Line};
+use grammar::{Call, Unread};
 
 // What stands where a line has no byte, and where it has no digit.
 const NO_BYTE: u64 = 256;
@@ -29,13 +29,6 @@ const LAST: u64 = 5;
 
 // How many numbers a line may have: no template takes more.
 const NUMBERS: usize = 8;
-
-// What a template answers: the number that refuses the line, or that none does.
-const FITS: u32 = 0;
-
-const NO_FORM: u32 = 16;
-
-const TOO_LARGE: u32 = 17;
 
 // The gaps of a template: for a number of a call, and for a handle.
 const NUMBER: u64 = b'#' as u64;
@@ -79,18 +72,16 @@ struct Gap {
     limit: u64,
 }
 
-// What a form with one number or two finds in a line: the number that refuses it, or 0 and the form's numbers.
+// The numbers of a form that has one or two: 0 for a second that it does not have.
 #[derive(Clone, Copy)]
 pub struct Pair {
-    pub refused: u32,
     pub first: u32,
     pub second: u32,
 }
 
-// What stands behind `(join ` and `(change `: the number that refuses it, or 0 and the numbers of the call.
+// What stands behind `(join ` and `(change `: the numbers of the call.
 #[derive(Clone, Copy)]
 struct Terms {
-    refused: u32,
     id: u32,
     kind: u32,
     rate: u32,
@@ -251,7 +242,12 @@ fn either(a: bool, b: bool) -> bool
 
 // What a template finds in a line from a place on: one walk over the template, with a place in the line. The numbers are put
 // one after the other into what is lent, which has to have room for as many as the template takes.
-fn read_as(line: &[u8], from: usize, template: &[u8], numbers: &mut [u64; NUMBERS]) -> u32
+fn read_as(
+    line: &[u8],
+    from: usize,
+    template: &[u8],
+    numbers: &mut [u64; NUMBERS],
+) -> Result<(), Unread>
     requires { Room template.now numbers.old }
     ensures { Reads template.now (drop from line.now) result numbers.new }
 {
@@ -265,7 +261,7 @@ fn read_as(line: &[u8], from: usize, template: &[u8], numbers: &mut [u64; NUMBER
         if gap.is {
             let number = read_numeral(line, at, gap.limit);
             if !number.is {
-                return NO_FORM;
+                return Err(Unread::NoForm);
             }
             at = number.next;
             numbers[count] = number.value;
@@ -273,16 +269,19 @@ fn read_as(line: &[u8], from: usize, template: &[u8], numbers: &mut [u64; NUMBER
             large = either(large, number.large);
         } else {
             if byte_at(line, at) != byte {
-                return NO_FORM;
+                return Err(Unread::NoForm);
             }
             at += 1;
         }
         i += 1;
     }
     if at < line.len() {
-        return NO_FORM;
+        return Err(Unread::NoForm);
     }
-    if large { TOO_LARGE } else { FITS }
+    if large {
+        return Err(Unread::TooLarge);
+    }
+    Ok(())
 }
 
 // Whether a line begins with a text: what a template asks up to its first gap, at less cost.
@@ -303,158 +302,117 @@ fn starts(line: &[u8], text: &[u8]) -> bool
 }
 
 // What the template of a form finds in a line: a text, and the rest of the template.
-fn read_form(line: &[u8], text: &[u8], rest: &[u8], numbers: &mut [u64; NUMBERS]) -> u32
+fn read_form(
+    line: &[u8],
+    text: &[u8],
+    rest: &[u8],
+    numbers: &mut [u64; NUMBERS],
+) -> Result<(), Unread>
     requires { Readable text.now rest.now numbers.old }
     ensures { Reads (text.now ++ rest.now) line.now result numbers.new }
 {
     if !starts(line, text) {
-        return NO_FORM;
+        return Err(Unread::NoForm);
     }
     read_as(line, text.len(), rest, numbers)
 }
 
 // The forms of each call: a group of `rules`.
-fn parse_open(line: &[u8]) -> Line
+fn parse_open(line: &[u8]) -> Result<Call, Unread>
     ensures { result ≡ parsed_by open_forms line.now }
 {
     let mut numbers = [0; NUMBERS];
-    let refused = read_form(line, b"(open ", b"# # #)", &mut numbers);
-    if refused != FITS {
-        return Line::Refused { number: refused };
-    }
-    Line::Form {
-        call: Call::Open {
-            threshold: numbers[0] as u32,
-            discipline: numbers[1] as u32,
-            seed: numbers[2] as u32,
-        },
-    }
-}
-
-fn no_terms(refused: u32) -> Terms
-    ensures { result ≡ no_terms refused }
-{
-    Terms {
-        refused,
-        id: 0,
-        kind: 0,
-        rate: 0,
-        burst: 0,
-    }
+    read_form(line, b"(open ", b"# # #)", &mut numbers)?;
+    Ok(Call::Open {
+        threshold: numbers[0] as u32,
+        discipline: numbers[1] as u32,
+        seed: numbers[2] as u32,
+    })
 }
 
 // What stands behind the text of a join and of a change.
-fn read_terms(line: &[u8], from: usize) -> Terms
+fn read_terms(line: &[u8], from: usize) -> Result<Terms, Unread>
     ensures { TermsRead (drop from line.now) result }
 {
     let mut numbers = [0; NUMBERS];
-    let private = read_as(line, from, b"# (private #))", &mut numbers);
-    if private == FITS {
-        return Terms {
-            refused: FITS,
-            id: numbers[0] as u32,
-            kind: PRIVATE,
-            rate: numbers[1] as u32,
-            burst: 0,
-        };
+    match read_as(line, from, b"# (private #))", &mut numbers) {
+        Ok(()) => {
+            return Ok(Terms {
+                id: numbers[0] as u32,
+                kind: PRIVATE,
+                rate: numbers[1] as u32,
+                burst: 0,
+            });
+        }
+        Err(Unread::TooLarge) => return Err(Unread::TooLarge),
+        Err(Unread::NoForm) => {}
     }
-    if private == TOO_LARGE {
-        return no_terms(TOO_LARGE);
-    }
-    let indifferent = read_as(line, from, b"# (indifferent # #))", &mut numbers);
-    if indifferent != FITS {
-        return no_terms(indifferent);
-    }
-    Terms {
-        refused: FITS,
+    read_as(line, from, b"# (indifferent # #))", &mut numbers)?;
+    Ok(Terms {
         id: numbers[0] as u32,
         kind: INDIFFERENT,
         rate: numbers[1] as u32,
         burst: numbers[2] as u32,
-    }
+    })
 }
 
 // The terms of a call whose line begins with a text.
-fn terms_behind(line: &[u8], text: &[u8]) -> Terms
+fn terms_behind(line: &[u8], text: &[u8]) -> Result<Terms, Unread>
     requires { plain text.now ≡ true }
     ensures { TermsBehind text.now line.now result }
 {
     if !starts(line, text) {
-        return no_terms(NO_FORM);
+        return Err(Unread::NoForm);
     }
     read_terms(line, text.len())
 }
 
-fn parse_join(line: &[u8]) -> Line
+fn parse_join(line: &[u8]) -> Result<Call, Unread>
     ensures { result ≡ parsed_by join_forms line.now }
 {
-    let terms = terms_behind(line, b"(join ");
-    if terms.refused != FITS {
-        return Line::Refused {
-            number: terms.refused,
-        };
-    }
-    Line::Form {
-        call: Call::Join {
-            id: terms.id,
-            kind: terms.kind,
-            rate: terms.rate,
-            burst: terms.burst,
-        },
-    }
+    let terms = terms_behind(line, b"(join ")?;
+    Ok(Call::Join {
+        id: terms.id,
+        kind: terms.kind,
+        rate: terms.rate,
+        burst: terms.burst,
+    })
 }
 
-fn parse_change(line: &[u8]) -> Line
+fn parse_change(line: &[u8]) -> Result<Call, Unread>
     ensures { result ≡ parsed_by change_forms line.now }
 {
-    let terms = terms_behind(line, b"(change ");
-    if terms.refused != FITS {
-        return Line::Refused {
-            number: terms.refused,
-        };
-    }
-    Line::Form {
-        call: Call::Change {
-            id: terms.id,
-            kind: terms.kind,
-            rate: terms.rate,
-            burst: terms.burst,
-        },
-    }
+    let terms = terms_behind(line, b"(change ")?;
+    Ok(Call::Change {
+        id: terms.id,
+        kind: terms.kind,
+        rate: terms.rate,
+        burst: terms.burst,
+    })
 }
 
-fn parse_leave(line: &[u8]) -> Line
+fn parse_leave(line: &[u8]) -> Result<Call, Unread>
     ensures { result ≡ parsed_by leave_forms line.now }
 {
     let mut numbers = [0; NUMBERS];
-    let refused = read_form(line, b"(leave ", b"#)", &mut numbers);
-    if refused != FITS {
-        return Line::Refused { number: refused };
-    }
-    Line::Form {
-        call: Call::Leave {
-            id: numbers[0] as u32,
-        },
-    }
+    read_form(line, b"(leave ", b"#)", &mut numbers)?;
+    Ok(Call::Leave {
+        id: numbers[0] as u32,
+    })
 }
 
-fn parse_load(line: &[u8]) -> Line
+fn parse_load(line: &[u8]) -> Result<Call, Unread>
     ensures { result ≡ parsed_by load_forms line.now }
 {
     let mut numbers = [0; NUMBERS];
-    let refused = read_form(line, b"(load ", b"# #)", &mut numbers);
-    if refused != FITS {
-        return Line::Refused { number: refused };
-    }
-    Line::Form {
-        call: Call::Load {
-            id: numbers[0] as u32,
-            dummies: numbers[1] as u32,
-        },
-    }
+    read_form(line, b"(load ", b"# #)", &mut numbers)?;
+    Ok(Call::Load {
+        id: numbers[0] as u32,
+        dummies: numbers[1] as u32,
+    })
 }
 
-fn parse_leave_or_load(line: &[u8]) -> Line
+fn parse_leave_or_load(line: &[u8]) -> Result<Call, Unread>
     ensures { result ≡ parsed_by (leave_forms ++ load_forms) line.now }
 {
     if starts(line, b"(le") {
@@ -463,42 +421,37 @@ fn parse_leave_or_load(line: &[u8]) -> Line
     parse_load(line)
 }
 
-fn parse_arrive(line: &[u8]) -> Line
+fn parse_arrive(line: &[u8]) -> Result<Call, Unread>
     ensures { result ≡ parsed_by arrive_forms line.now }
 {
     let mut numbers = [0; NUMBERS];
-    let refused = read_form(line, b"(arrive ", b"# (packet @ #))", &mut numbers);
-    if refused != FITS {
-        return Line::Refused { number: refused };
-    }
+    read_form(line, b"(arrive ", b"# (packet @ #))", &mut numbers)?;
     let packet = Packet {
         handle: numbers[1],
         length: numbers[2] as u32,
     };
-    Line::Form {
-        call: Call::Arrive {
-            id: numbers[0] as u32,
-            packet,
-        },
-    }
+    Ok(Call::Arrive {
+        id: numbers[0] as u32,
+        packet,
+    })
 }
 
-fn parse_tick(line: &[u8]) -> Line
+fn parse_tick(line: &[u8]) -> Result<Call, Unread>
     ensures { result ≡ parsed_by tick_forms line.now }
 {
     let text = b"(tick)";
     if !starts(line, text) {
-        return Line::Refused { number: NO_FORM };
+        return Err(Unread::NoForm);
     }
     if text.len() < line.len() {
-        return Line::Refused { number: NO_FORM };
+        return Err(Unread::NoForm);
     }
-    Line::Form { call: Call::Tick }
+    Ok(Call::Tick)
 }
 
 // What a line holds: shape is judged before size (paper 01, "Script and printout"). The second byte spares a walk for each form
 // that the line cannot be.
-pub fn parse(line: &[u8]) -> Line
+pub fn parse(line: &[u8]) -> Result<Call, Unread>
     ensures { result ≡ parsed line.now }
 {
     let second = byte_at(line, 1);
@@ -509,43 +462,31 @@ pub fn parse(line: &[u8]) -> Line
         LEAVE_OR_LOAD => parse_leave_or_load(line),
         ARRIVE => parse_arrive(line),
         TICK => parse_tick(line),
-        _ => Line::Refused { number: NO_FORM },
-    }
-}
-
-// The numbers of a form that was read, where nothing refuses its line.
-fn pair_from(refused: u32, first: u64, second: u64) -> Pair
-    requires { Narrow refused first second }
-    ensures { result ≡ pair_from refused first second }
-{
-    if refused != FITS {
-        return Pair {
-            refused,
-            first: 0,
-            second: 0,
-        };
-    }
-    Pair {
-        refused: FITS,
-        first: first as u32,
-        second: second as u32,
+        _ => Err(Unread::NoForm),
     }
 }
 
 // The first line of a text of demands, with the line feed that closes it (paper 02, S-8).
-pub fn threshold(line: &[u8]) -> Pair
+pub fn threshold(line: &[u8]) -> Result<Pair, Unread>
     ensures { result ≡ pair_of threshold_form line.now }
 {
     let mut numbers = [0; NUMBERS];
-    let refused = read_form(line, b"(threshold ", b"#)\n", &mut numbers);
-    pair_from(refused, numbers[0], 0)
+    read_form(line, b"(threshold ", b"#)\n", &mut numbers)?;
+    Ok(Pair {
+        first: numbers[0] as u32,
+        second: 0,
+    })
 }
 
 // A demand: its id and its shares, likewise.
-pub fn demand(line: &[u8]) -> Pair
+pub fn demand(line: &[u8]) -> Result<Pair, Unread>
     ensures { result ≡ pair_of demand_form line.now }
 {
     let mut numbers = [0; NUMBERS];
-    let refused = read_form(line, b"(demand ", b"# #)\n", &mut numbers);
-    pair_from(refused, numbers[0], numbers[1])
+    read_form(line, b"(demand ", b"# #)\n", &mut numbers)?;
+    let (id, shares) = (numbers[0], numbers[1]);
+    Ok(Pair {
+        first: id as u32,
+        second: shares as u32,
+    })
 }

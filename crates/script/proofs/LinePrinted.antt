@@ -8,7 +8,8 @@ use lib.Seq.{drop-cons, take_all, take-nil}
 use Rattle.definitions.specs.Sizes.{handle_limit}
 use Rattle.definitions.specs.State.{Core}
 use Rattle.definitions.specs.Counts.{Whole}
-use Rattle.grammar.specs.declared.Line.TheVariants.{Refused as Unread}
+use Rattle.std.specs.Prelude.{Err}
+use Rattle.grammar.specs.declared.Unread.TheVariants.{NoForm}
 use Rattle.grammar.specs.declared.Audience.{Audience}
 use Rattle.grammar.specs.Bytes.{line_feed, Unbroken}
 use Rattle.grammar.specs.Grammar.{parsed}
@@ -70,7 +71,7 @@ module _ (to : Audience) (core : Core) (text : List ℕ) (at : ℕ) (before afte
   -- bytes that no line feed closes
   pub open_printed : at < length text
       → Unbroken (drop at text)
-      → after ≡ before ++ shown to core (Unread 16)
+      → after ≡ before ++ shown to core (Err NoForm)
       → after ++ ahead to core text (length text) ≡ before ++ ahead to core text at
   open_printed inside whole wrote =
       let bytes : drop at text ≡ get_or text at 0 ∷ drop (suc at) text = drop-cons text at 0 inside in

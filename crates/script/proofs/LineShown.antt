@@ -20,7 +20,8 @@ use Rattle.definitions.proofs.ToldNotes.{tick_event, seen_after}
 use Rattle.grammar.specs.declared.Audience.{Audience}
 use Rattle.grammar.specs.declared.Audience.TheVariants.{Caller, Operator, Tenant}
 use Rattle.grammar.specs.declared.Call.{Call}
-use Rattle.grammar.specs.declared.Line.TheVariants.{Form, Refused as Unread}
+use Rattle.std.specs.Prelude.{Ok, Err}
+use Rattle.grammar.specs.declared.Unread.{Unread}
 use Rattle.grammar.specs.Calls.{event_of}
 use Rattle.grammar.specs.Sentences.{sentence}
 use Rattle.grammar.specs.Printout.{answered, shown}
@@ -30,11 +31,11 @@ use Rattle.notes.specs.ReasonLeft.{reason_left, ReasonIsLeft}
 use Rattle.notes.proofs.ReasonLeft.{reason_left_lem}
 use Rattle.script.specs.Shown.{unread_for, note_for, call_for}
 
-pub unread_shown : (to : Audience) (core : Core) (n : ℕ) → unread_for to n ≡ shown to core (Unread n)
+pub unread_shown : (to : Audience) (core : Core) (unread : Unread) → unread_for to unread ≡ shown to core (Err unread)
 unfolding shown answered
-unread_shown Caller core n = refl
-unread_shown Operator core n = refl
-unread_shown (Tenant id) core n = refl
+unread_shown Caller core unread = refl
+unread_shown Operator core unread = refl
+unread_shown (Tenant id) core unread = refl
 
 -- whoever is no tenant is told what the operator is, and whoever is not the caller is told of ticks alone
 module _ (core : Core) (answer : Answer) (sum : ℕ) where
@@ -84,7 +85,7 @@ module _ (core : Core) (known : CoreLimits core) (call : Call) (sum : ℕ)
         (tick_event (event_of call) ticked) reason
         ∙ seen_after id core (step core Tick).answer (reason_of (draws_of core))
 
-  pub call-shown : (to : Audience) → call_for to (is_tick (event_of call)) left answer sum ≡ shown to core (Form call)
+  pub call-shown : (to : Audience) → call_for to (is_tick (event_of call)) left answer sum ≡ shown to core (Ok call)
   unfolding shown answered
   call-shown Caller = refl
   call-shown Operator = tick_shown _ _ _ operator_told

@@ -13,8 +13,10 @@ use Rattle.grammar.specs.declared.Call.{Call}
 use Rattle.definitions.specs.declared.Answer.{Answer}
 use Rattle.definitions.specs.State.{Core}
 use Rattle.definitions.specs.Counts.{Whole}
-use Rattle.grammar.specs.declared.Line.{Line}
-use Rattle.grammar.specs.declared.Line.TheVariants.{Form, Refused as Unread}
+use Rattle.std.specs.Prelude.{Ok, Err}
+use Rattle.grammar.specs.Unread.{Line}
+use Rattle.grammar.specs.declared.Unread.{Unread}
+use Rattle.grammar.specs.declared.Unread.TheVariants.{NoForm}
 use Rattle.grammar.specs.declared.Audience.{Audience}
 use Rattle.grammar.specs.Bytes.{Unbroken}
 use Rattle.grammar.specs.Grammar.{parsed}
@@ -74,13 +76,13 @@ module _ (to : Audience) (text : List ℕ) (at : ℕ) (out : List ℕ) (written 
       )
 
   -- bytes behind the last line feed
-  pub walked_open : {new : List ℕ} {more : ℕ} → Valid c t → end ≡ length text → LineWritten (unread_for to 16) out written new more
+  pub walked_open : {new : List ℕ} {more : ℕ} → Valid c t → end ≡ length text → LineWritten (unread_for to NoForm) out written new more
       → Further new more c t
   walked_open {new} {more} valid e p =
       let whole = subst Unbroken (take_all (end - at) (drop at text) (omega (arith, length-drop at text, e))) l.unbroken in
       further p c t (length text) valid (span_last text at span read (omega arith) ∙ e) inside (omega arith)
       (open_printed to (core_of c t) text at (take written out) (take more new) inside whole
-      (appended_front (wrote p) ∙ ap (λ (x : List ℕ). take written out ++ x) (unread_shown to (core_of c t) 16)))
+      (appended_front (wrote p) ∙ ap (λ (x : List ℕ). take written out ++ x) (unread_shown to (core_of c t) NoForm)))
       (open_left (whole_of c t) text at (omega arith) whole)
 
   module _ (feed : end < length text) where
@@ -106,14 +108,14 @@ module _ (to : Audience) (text : List ℕ) (at : ℕ) (out : List ℕ) (written 
         ∙ closed_left text at end l.forth feed (l.closed feed) (whole_of c t) l.unbroken upto past)
 
     -- a line without a form
-    pub walked_unread : {new : List ℕ} {more : ℕ} (n : ℕ) → Valid c t → parsed (between text at end) ≡ Unread n
-        → LineWritten (unread_for to n) out written new more
+    pub walked_unread : {new : List ℕ} {more : ℕ} (unread : Unread) → Valid c t → parsed (between text at end) ≡ Err unread
+        → LineWritten (unread_for to unread) out written new more
         → Further new more c t
     unfolding answered whole_by
-    walked_unread n valid held p = closed p (Unread n) held c t valid (unread_shown to (core_of c t) n) refl refl
+    walked_unread unread valid held p = closed p (Err unread) held c t valid (unread_shown to (core_of c t) unread) refl refl
 
     -- a line with a form
-    pub walked_form : {new : List ℕ} {more : ℕ} (call : Call) → parsed (between text at end) ≡ Form call
+    pub walked_form : {new : List ℕ} {more : ℕ} (call : Call) → parsed (between text at end) ≡ Ok call
         → Valid c t → (r : Ticked) (u : Tables) → PerformedCall call c t r u
         → (ticked : Bool) → ticked ≡ is_tick (event_of call)
         → LineWritten (call_for to ticked (core_of r.answered.control u) r.answered.answer r.sample.sum) out written new more
@@ -122,7 +124,7 @@ module _ (to : Audience) (text : List ℕ) (at : ℕ) (out : List ℕ) (written 
     walked_form call held valid r u done ticked e p =
         let meets = done.promised.meets in
         let sum = r.sample.sum in
-        closed p (Form call) held r.answered.control u meets.valid
+        closed p (Ok call) held r.answered.control u meets.valid
         (ap (λ (b : Bool). call_for to b (core_of r.answered.control u) r.answered.answer sum) e
         ∙ ap₂ (λ (core : Core) (a : Answer). call_for to (is_tick (event_of call)) core a sum) meets.core meets.answer
         ∙ call-shown (core_of c t) (core_of-limits c t valid) call sum done.sum to)

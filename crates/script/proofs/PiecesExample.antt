@@ -30,7 +30,7 @@ use Rattle.tables.proofs.Promises.{core_of_shut}
 use Rattle.tables.proofs.RunCounts.{promised_whole, shut_whole}
 use Rattle.grammar.specs.declared.Audience.{Audience}
 use Rattle.grammar.specs.declared.Call.TheVariants.{Tick}
-use Rattle.grammar.specs.declared.Line.TheVariants.{Form}
+use Rattle.std.specs.Prelude.{Ok}
 use Rattle.grammar.specs.declared.Audience.TheVariants.{Caller}
 use Rattle.script.specs.Pieces.{ahead, left_behind, Piece, Written, started, piece}
 use Rattle.script.specs.PiecesExample.{two_lines, buffer, progress, ThreePieces, Held, Ended, PiecesExist}
@@ -153,7 +153,7 @@ unfolding line_end
 last_line = span_end two_lines 7 (span_at two_lines 7) refl (omega arith)
 
 -- a tick leaves an unopened core, without counts
-ticked : whole_by whole_new (Form Tick) ≡ whole_new
+ticked : whole_by whole_new (Ok Tick) ≡ whole_new
 unfolding printing whole_by whole_after
 ticked = λ i. record {
   core = unopened;

@@ -11,6 +11,8 @@ use Rattle.definitions.specs.Notes.{note_of, tenant_seen}
 use Rattle.grammar.specs.declared.Audience.{Audience}
 use Rattle.grammar.specs.declared.Audience.TheVariants.{Caller, Operator, Tenant}
 use Rattle.grammar.specs.declared.Call.{Call}
+use Rattle.grammar.specs.declared.Unread.{Unread}
+use Rattle.grammar.specs.Unread.{unread_number}
 use Rattle.grammar.specs.Calls.{event_of}
 use Rattle.grammar.specs.Sentences.{sentence}
 use Rattle.grammar.specs.Printout.{printed}
@@ -28,10 +30,10 @@ pub record PerformedCall (call : Call) (c : Control) (t : Tables) (r : Ticked) (
   pub sum : is_tick (event_of call) ≡ true → r.sample.sum ≡ sum_of (draws_of (core_of c t))
 
 -- of a line that holds no form
-abbrev pub unread_for : Audience → ℕ → List ℕ
-unread_for Caller number = printed (Refused number)
-unread_for Operator number = []
-unread_for (Tenant id) number = []
+abbrev pub unread_for : Audience → Unread → List ℕ
+unread_for Caller unread = printed (Refused (unread_number unread))
+unread_for Operator unread = []
+unread_for (Tenant id) unread = []
 
 -- what is told of a tick that gave an answer and left a core, by that sum; nobody tells the caller, and it would be told all
 abbrev pub note_for : Audience → Core → Answer → ℕ → Note

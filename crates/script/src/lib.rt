@@ -12,19 +12,16 @@ ghost use Rattle.tables.specs.Tables.{tables};
 ghost use Rattle.tables.specs.Meaning.{core_of};
 ghost use Rattle.tables.specs.Invariant.{Valid};
 ghost use Rattle.tables.specs.Places.{Promised};
-ghost use Rattle.script.specs.UnreadLine.{unread_number};
 ghost use Rattle.script.specs.Shown.{PerformedCall, unread_for, note_for, call_for};
 ghost use Rattle.script.specs.Pieces.{Walked, Piece, Start};
 
 use definitions::{Answer, Note};
 use generator::Generator;
-use grammar::{Audience, Call, Line, TEXT_LIMIT};
+use grammar::{Audience, Call, TEXT_LIMIT, Unread};
 use slot::Ticked;
 use tables::{Answered, Control, Tables};
 
-// What bytes that are no form are answered with, and a text that is too long.
-const NO_FORM: u32 = 16;
-
+// What a text that is too long is answered with.
 const TOO_LONG: u32 = 18;
 
 // How far a script was read: the control there, the place behind the last line, and how many bytes were written.
@@ -104,22 +101,12 @@ pub fn perform(control: Control, tables: &mut Tables, call: Call) -> Answered
     performed.answered
 }
 
-// The number that a line without a form is answered with.
-fn unread_number(read: Line) -> u32
-    ensures { result ≡ unread_number read }
-{
-    match read {
-        Line::Form { call: _ } => 0,
-        Line::Refused { number } => number,
-    }
-}
-
 // Writes what a line without a form shows: its number, to the caller alone.
-fn print_unread(audience: Audience, out: &mut [u8], at: usize, number: u32) -> usize
-    ensures { LineWritten (unread_for audience number) out.old at out.new result }
+fn print_unread(audience: Audience, out: &mut [u8], at: usize, unread: Unread) -> usize
+    ensures { LineWritten (unread_for audience unread) out.old at out.new result }
 {
     match audience {
-        Audience::Caller => printer::print_refused(out, at, number),
+        Audience::Caller => printer::print_refused(out, at, unread.number()),
         Audience::Operator => at,
         Audience::Tenant { id: _ } => at,
     }
@@ -193,17 +180,18 @@ fn line(
         return Progress {
             control,
             next,
-            written: print_unread(audience, out, written, NO_FORM),
+            written: print_unread(audience, out, written, Unread::NoForm),
         };
     }
-    let read = parser::parse(&text[at..end]);
-    let Line::Form { call } = read else {
-        let number = unread_number(read);
-        return Progress {
-            control,
-            next,
-            written: print_unread(audience, out, written, number),
-        };
+    let call = match parser::parse(&text[at..end]) {
+        Ok(call) => call,
+        Err(unread) => {
+            return Progress {
+                control,
+                next,
+                written: print_unread(audience, out, written, unread),
+            };
+        }
     };
     let ticked = is_tick(call);
     let performed = perform_told(control, tables, call);

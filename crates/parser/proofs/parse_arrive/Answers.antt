@@ -3,6 +3,7 @@
 use mathlib.Core.Path.{refl, sym, ◌∙◌}
 use mathlib.Core.List.{[]}
 use native.Mathlib.Omega.{arith}
+use Rattle.std.proofs.lemmas.Result.{err_from_is_err_and}
 use Rattle.definitions.specs.Sizes.{number_limit}
 use Rattle.grammar.specs.Templates.{limits_in}
 use Rattle.grammar.specs.Grammar.{arrive_forms}
@@ -10,26 +11,26 @@ use Rattle.parser.specs.Texts.{plain}
 use Rattle.parser.proofs.Forms.{read_placed, read_within, rule_fits, only_refused}
 use Rattle.parser.proofs.parse_arrive.Goals as goal
 
-pub read_form-refused-requires : goal.read_form-refused-requires
+pub read_form-requires : goal.read_form-requires
 unfolding plain limits_in
-read_form-refused-requires c = record { bare = refl; room = record { sized = refl; enough = omega arith } }
+read_form-requires c = record { bare = refl; room = record { sized = refl; enough = omega arith } }
 
-pub returns-then-refused-ne-FITS : goal.returns-then-refused-ne-FITS
+pub returns-in_err-read_form : goal.returns-in_err-read_form
 unfolding arrive_forms
-returns-then-refused-ne-FITS c = sym (only_refused _ _ c.read_form-refused.ensures c.if-refused-ne-FITS.true)
+returns-in_err-read_form c =
+    let p = err_from_is_err_and c.from_residual.result c.from_residual.ensures.1 in
+    rw (p.1, p.2) (sym (only_refused _ _ c.in_err-read_form.ensures))
 
 pub overflow_cast-packet : goal.overflow_cast-packet
 unfolding limits_in number_limit
-overflow_cast-packet c = omega (arith, read_within c.read_form-refused.ensures c.if-refused-ne-FITS.false 2 (omega arith))
+overflow_cast-packet c = omega (arith, read_within c.in_ok-read_form.ensures 2 (omega arith))
 
 pub overflow_cast-result : goal.overflow_cast-result
 unfolding limits_in number_limit
-overflow_cast-result c = omega (arith, read_within c.read_form-refused.ensures c.if-refused-ne-FITS.false 0 (omega arith))
+overflow_cast-result c = omega (arith, read_within c.in_ok-read_form.ensures 0 (omega arith))
 
 pub returns : goal.returns
 unfolding arrive_forms limits_in
 returns c =
-    let read = c.read_form-refused.ensures in
-    let e = c.if-refused-ne-FITS.false in
-    let at = read_placed read e in
-    sym (rule_fits _ [] _ read e ∙ rw (at 0 (omega arith), at 1 (omega arith), at 2 (omega arith)))
+    let at = read_placed c.in_ok-read_form.ensures in
+    sym (rule_fits _ [] _ c.in_ok-read_form.ensures ∙ rw (at 0 (omega arith), at 1 (omega arith), at 2 (omega arith)))

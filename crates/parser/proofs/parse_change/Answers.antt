@@ -1,18 +1,21 @@
--- `parser::parse_change` meets its contract: the terms that its line has make the call, or refuse it. Assumes nothing.
-use mathlib.Core.Path.{refl, sym, ◌∙◌}
-use borrow.Author.Tests.{eq-eqb, ne_eqb}
+-- `parser::parse_change` meets its contract: the terms behind its text are those of its call. Assumes nothing.
+use mathlib.Core.Path.{refl, sym}
+use Rattle.std.proofs.lemmas.Result.{err_from_is_err_and}
+use Rattle.grammar.specs.declared.Call.TheVariants.{Change}
 use Rattle.grammar.specs.Grammar.{change_forms}
 use Rattle.parser.specs.Texts.{plain}
 use Rattle.parser.proofs.parse_change.Goals as goal
 
-pub terms_behind-terms-requires : goal.terms_behind-terms-requires
+pub terms_behind-requires : goal.terms_behind-requires
 unfolding plain
-terms_behind-terms-requires c = refl
+terms_behind-requires c = refl
 
-pub returns-then-terms-ne-FITS : goal.returns-then-terms-ne-FITS
+pub returns-in_err-terms : goal.returns-in_err-terms
 unfolding change_forms
-returns-then-terms-ne-FITS c = sym (c.terms_behind-terms.ensures _ ∙ rw (ne_eqb _ 0 c.if-terms-ne-FITS.true))
+returns-in_err-terms c =
+    let p = err_from_is_err_and c.from_residual.result c.from_residual.ensures.1 in
+    rw (p.1, p.2) (sym (c.in_err-terms.ensures (λ id kind rate burst. Change id kind rate burst)))
 
 pub returns : goal.returns
 unfolding change_forms
-returns c = sym (c.terms_behind-terms.ensures _ ∙ rw (eq-eqb _ 0 c.if-terms-ne-FITS.false))
+returns c = sym (c.in_ok-terms.ensures (λ id kind rate burst. Change id kind rate burst))

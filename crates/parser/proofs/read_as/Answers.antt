@@ -70,5 +70,5 @@ returns-then-at-line c = walked-behind c.loop-i.invariant c.loop-i-test.false c.
 pub returns-then-large : goal.returns-then-large
 returns-then-large c = walked_large c.loop-i.invariant c.loop-i-test.false c.if-at-line.false c.if-large.true
 
-pub returns-else-large : goal.returns-else-large
-returns-else-large c = walked_all c.loop-i.invariant c.loop-i-test.false c.if-at-line.false c.if-large.false
+pub returns : goal.returns
+returns c = walked_all c.loop-i.invariant c.loop-i-test.false c.if-at-line.false c.if-large.false
