@@ -16,7 +16,6 @@ use counts::COUNTS;
 use definitions::{Answer, INDIFFERENT, SHARES};
 use grammar::Call;
 use order::LINKS;
-use parser::Word;
 use runs::Progress;
 use std::io::Result;
 use tables::{Control, LEVEL, STOCKS, STORE, TERMS};
@@ -42,9 +41,6 @@ const TICKING: u32 = 8;
 const NO_PLACE: u32 = 14;
 
 const NO_TOKEN: u32 = 15;
-
-// The program's name, the seed and the number of blocks.
-const ARGUMENTS: usize = 3;
 
 // What a run keeps beside its maker of calls and its check: the phase; of the stretch its rate, its level at the start, its
 // ticks and the packets accepted; and the offerings that ended, and those that were exact.
@@ -368,24 +364,11 @@ fn run(rt: &(impl Print + Eprint), seed: u32, count: u32) {
     );
 }
 
-fn usage(rt: &impl Eprint) {
-    let _ = eprintln!(rt; "usage: greedy SEED BLOCKS");
-}
-
 fn main(rt: HostRuntime) {
-    if arguments::count(&rt) != ARGUMENTS {
-        usage(&rt);
-        return;
+    match arguments::numbers(arguments::count(&rt), |i| arguments::number(&rt, i)) {
+        Some([seed, count]) => run(&rt, seed, count),
+        None => {
+            let _ = eprintln!(rt; "usage: greedy SEED BLOCKS");
+        }
     }
-    let first = arguments::number(&rt, 1);
-    let Word::Number { value: seed } = first else {
-        usage(&rt);
-        return;
-    };
-    let second = arguments::number(&rt, 2);
-    let Word::Number { value: count } = second else {
-        usage(&rt);
-        return;
-    };
-    run(&rt, seed, count);
 }

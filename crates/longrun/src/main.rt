@@ -7,12 +7,8 @@ ghost use Rattle.runs.specs.LongRun.{block, after};
 
 use counts::COUNTS;
 use order::LINKS;
-use parser::Word;
 use tables::{STOCKS, STORE, TERMS};
 use tally::BLOCK;
-
-// The program's name, the seed and the number of blocks.
-const ARGUMENTS: usize = 3;
 
 // Prints the line of the last of so many blocks. The seed stands here for the contract: what is printed is its check.
 fn tell(rt: &(impl Print + Eprint), seed: u32, blocks: u32, check: u32) -> bool
@@ -65,24 +61,11 @@ fn run(rt: &(impl Print + Eprint), seed: u32, count: u32) {
     );
 }
 
-fn usage(rt: &impl Eprint) {
-    let _ = eprintln!(rt; "usage: longrun SEED BLOCKS");
-}
-
 fn main(rt: HostRuntime) {
-    if arguments::count(&rt) != ARGUMENTS {
-        usage(&rt);
-        return;
+    match arguments::numbers(arguments::count(&rt), |i| arguments::number(&rt, i)) {
+        Some([seed, count]) => run(&rt, seed, count),
+        None => {
+            let _ = eprintln!(rt; "usage: longrun SEED BLOCKS");
+        }
     }
-    let first = arguments::number(&rt, 1);
-    let Word::Number { value: seed } = first else {
-        usage(&rt);
-        return;
-    };
-    let second = arguments::number(&rt, 2);
-    let Word::Number { value: count } = second else {
-        usage(&rt);
-        return;
-    };
-    run(&rt, seed, count);
 }

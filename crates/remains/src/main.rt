@@ -15,7 +15,6 @@ ghost use Rattle.remains.specs.Started.{stretch, started, Starts};
 use counts::COUNTS;
 use definitions::PLACES;
 use order::{END, LINKS};
-use parser::Word;
 use runs::Progress;
 use tables::{COUNT, HEAD, STOCKS, STORE, TERMS};
 use tally::BLOCK;
@@ -24,9 +23,6 @@ use tally::BLOCK;
 const STRETCH: u32 = 1000;
 
 const STRETCHES: u32 = BLOCK / STRETCH;
-
-// The program's name, the seed, the number of blocks, the number that remains and the earlier seed.
-const ARGUMENTS: usize = 5;
 
 // Whether a packet waits at a place. Before the first open anything stands in the stocks.
 fn waits_at(stocks: &[u32; STOCKS], place: u32) -> bool
@@ -221,34 +217,11 @@ fn run(rt: &(impl Print + Eprint), seed: u32, count: u32, number: u32, earlier: 
     );
 }
 
-fn usage(rt: &impl Eprint) {
-    let _ = eprintln!(rt; "usage: remains SEED BLOCKS NUMBER EARLIER");
-}
-
 fn main(rt: HostRuntime) {
-    if arguments::count(&rt) != ARGUMENTS {
-        usage(&rt);
-        return;
+    match arguments::numbers(arguments::count(&rt), |i| arguments::number(&rt, i)) {
+        Some([seed, count, number, earlier]) => run(&rt, seed, count, number, earlier),
+        None => {
+            let _ = eprintln!(rt; "usage: remains SEED BLOCKS NUMBER EARLIER");
+        }
     }
-    let first = arguments::number(&rt, 1);
-    let Word::Number { value: seed } = first else {
-        usage(&rt);
-        return;
-    };
-    let second = arguments::number(&rt, 2);
-    let Word::Number { value: count } = second else {
-        usage(&rt);
-        return;
-    };
-    let third = arguments::number(&rt, 3);
-    let Word::Number { value: number } = third else {
-        usage(&rt);
-        return;
-    };
-    let fourth = arguments::number(&rt, 4);
-    let Word::Number { value: earlier } = fourth else {
-        usage(&rt);
-        return;
-    };
-    run(&rt, seed, count, number, earlier);
 }
