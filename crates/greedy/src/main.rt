@@ -365,10 +365,11 @@ fn run(rt: &(impl Print + Eprint), seed: u32, count: u32) {
 }
 
 fn main(rt: HostRuntime) {
-    match arguments::numbers(arguments::count(&rt), |i| arguments::number(&rt, i)) {
-        Some([seed, count]) => run(&rt, seed, count),
-        None => {
-            let _ = eprintln!(rt; "usage: greedy SEED BLOCKS");
-        }
-    }
+    let given = arguments::numbers(arguments::count(&rt), |i| arguments::number(&rt, i));
+    let Some(numbers): Option<[u32; 2]> = given else {
+        let _ = eprintln!(rt; "usage: greedy SEED BLOCKS");
+        return;
+    };
+    let [seed, count] = numbers;
+    run(&rt, seed, count);
 }

@@ -218,10 +218,11 @@ fn run(rt: &(impl Print + Eprint), seed: u32, count: u32, number: u32, earlier: 
 }
 
 fn main(rt: HostRuntime) {
-    match arguments::numbers(arguments::count(&rt), |i| arguments::number(&rt, i)) {
-        Some([seed, count, number, earlier]) => run(&rt, seed, count, number, earlier),
-        None => {
-            let _ = eprintln!(rt; "usage: remains SEED BLOCKS NUMBER EARLIER");
-        }
-    }
+    let given = arguments::numbers(arguments::count(&rt), |i| arguments::number(&rt, i));
+    let Some(numbers): Option<[u32; 4]> = given else {
+        let _ = eprintln!(rt; "usage: remains SEED BLOCKS NUMBER EARLIER");
+        return;
+    };
+    let [seed, count, number, earlier] = numbers;
+    run(&rt, seed, count, number, earlier);
 }
