@@ -1,7 +1,8 @@
 // The arguments that a program is given, one at a time. No contract can say what they are.
 #![tactic(auto)]
 
-ghost use Rattle.io.specs.Counts.{IsPrefixLen};
+ghost use Rattle.std.specs.Prelude.{◌≤◌, length, IfSome, IsNone};
+ghost use Rattle.arguments.specs.Numbers.{AllNumbers, NotAllNumbers};
 
 use std::env::{Env, FillError};
 
@@ -10,24 +11,39 @@ pub const ARGUMENT: usize = 16;
 
 // How many arguments there are, the program's name among them.
 pub fn count(rt: &impl Env) -> usize {
-    for i in 0..usize::MAX {
-        if let Err(FillError::NotPresent) = rt.arg(i, &mut []) {
-            return i;
-        }
-    }
-    usize::MAX
+    (0..usize::MAX)
+        .find(|&i| matches!(rt.arg(i, &mut []), Err(FillError::NotPresent)))
+        .unwrap_or(usize::MAX)
 }
 
-// Reads an argument, and gives how many bytes it has.
-pub fn read(rt: &impl Env, i: usize, room: &mut [u8; ARGUMENT]) -> usize
-    ensures { IsPrefixLen result room.new }
+// Reads an argument into the room, and gives its bytes.
+pub fn read<'a>(rt: &impl Env, i: usize, room: &'a mut [u8; ARGUMENT]) -> &'a [u8]
+    ensures { length result.now ≤ 16 }
 {
-    rt.arg(i, room).unwrap_or(0)
+    let length = rt.arg(i, room).unwrap_or(0);
+    &room[..length]
 }
 
-// The number that an argument is.
+// The number that an argument is, if it is one.
 pub fn number(rt: &impl Env, i: usize) -> Option<u32> {
-    let mut room = [0u8; ARGUMENT];
-    let length = read(rt, i, &mut room);
-    parser::number(&room[..length])
+    parser::number(read(rt, i, &mut [0; ARGUMENT]))
+}
+
+// The numbers that the arguments behind the program's name are, if there are so many of them and each is one.
+pub fn numbers<const N: usize, F: Fn(usize) -> Option<u32>>(
+    count: usize,
+    number: F,
+) -> Option<[u32; N]>
+    requires { F.IsAlwaysCallable number }
+    ensures some { IfSome result (AllNumbers (F.post number) N count) }
+    ensures none { IsNone result → NotAllNumbers (F.post number) N count }
+{
+    if count.checked_sub(1) != Some(N) {
+        return None;
+    }
+    let mut numbers = [0; N];
+    for i in 0..N {
+        numbers[i] = number(i + 1)?;
+    }
+    Some(numbers)
 }

@@ -40,9 +40,6 @@ const NO_PLACE: u32 = 14;
 
 const NO_TOKEN: u32 = 15;
 
-// The program's name, the seed and the number of blocks.
-const ARGUMENTS: usize = 3;
-
 // What a run keeps beside its maker of calls and its check: the phase; of the stretch its rate, its level at the start, its
 // ticks and the packets accepted; and the offerings that ended, and those that were exact.
 #[derive(Clone, Copy)]
@@ -317,22 +314,12 @@ fn run(rt: &(impl Print + Eprint), seed: u32, count: u32) {
     blocks(rt, seed, count, &mut tables);
 }
 
-fn usage(rt: &impl Eprint) {
-    let _ = eprintln!(rt; "usage: greedy SEED BLOCKS");
-}
-
 fn main(rt: HostRuntime) {
-    if arguments::count(&rt) != ARGUMENTS {
-        usage(&rt);
-        return;
-    }
-    let Some(seed) = arguments::number(&rt, 1) else {
-        usage(&rt);
+    let given = arguments::numbers(arguments::count(&rt), |i| arguments::number(&rt, i));
+    let Some(numbers): Option<[u32; 2]> = given else {
+        let _ = eprintln!(rt; "usage: greedy SEED BLOCKS");
         return;
     };
-    let Some(count) = arguments::number(&rt, 2) else {
-        usage(&rt);
-        return;
-    };
+    let [seed, count] = numbers;
     run(&rt, seed, count);
 }

@@ -8,9 +8,6 @@ ghost use Rattle.runs.specs.LongRun.{block, after};
 use tables::Tables;
 use tally::BLOCK;
 
-// The program's name, the seed and the number of blocks.
-const ARGUMENTS: usize = 3;
-
 // Prints the line of the last of so many blocks. The seed stands here for the contract: what is printed is its check.
 fn tell(rt: &(impl Print + Eprint), seed: u32, blocks: u32, check: u32) -> bool
     requires { check ≡ (after seed (blocks * block)).check }
@@ -37,22 +34,12 @@ fn run(rt: &(impl Print + Eprint), seed: u32, count: u32) {
     blocks(rt, seed, count, &mut tables);
 }
 
-fn usage(rt: &impl Eprint) {
-    let _ = eprintln!(rt; "usage: longrun SEED BLOCKS");
-}
-
 fn main(rt: HostRuntime) {
-    if arguments::count(&rt) != ARGUMENTS {
-        usage(&rt);
-        return;
-    }
-    let Some(seed) = arguments::number(&rt, 1) else {
-        usage(&rt);
+    let given = arguments::numbers(arguments::count(&rt), |i| arguments::number(&rt, i));
+    let Some(numbers): Option<[u32; 2]> = given else {
+        let _ = eprintln!(rt; "usage: longrun SEED BLOCKS");
         return;
     };
-    let Some(count) = arguments::number(&rt, 2) else {
-        usage(&rt);
-        return;
-    };
+    let [seed, count] = numbers;
     run(&rt, seed, count);
 }

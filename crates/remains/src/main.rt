@@ -23,9 +23,6 @@ const STRETCH: u32 = 1000;
 
 const STRETCHES: u32 = BLOCK / STRETCH;
 
-// The program's name, the seed, the number of blocks, the number that remains and the earlier seed.
-const ARGUMENTS: usize = 5;
-
 // Whether a packet waits at a place. Before the first open anything stands in the stocks.
 fn waits_at(stocks: &[u32; STOCKS], place: u32) -> bool
     requires { place < sentinel }
@@ -167,30 +164,12 @@ fn run(rt: &(impl Print + Eprint), seed: u32, count: u32, number: u32, earlier: 
     blocks(rt, earlier, seed, count, &mut tables, number);
 }
 
-fn usage(rt: &impl Eprint) {
-    let _ = eprintln!(rt; "usage: remains SEED BLOCKS NUMBER EARLIER");
-}
-
 fn main(rt: HostRuntime) {
-    if arguments::count(&rt) != ARGUMENTS {
-        usage(&rt);
-        return;
-    }
-    let Some(seed) = arguments::number(&rt, 1) else {
-        usage(&rt);
+    let given = arguments::numbers(arguments::count(&rt), |i| arguments::number(&rt, i));
+    let Some(numbers): Option<[u32; 4]> = given else {
+        let _ = eprintln!(rt; "usage: remains SEED BLOCKS NUMBER EARLIER");
         return;
     };
-    let Some(count) = arguments::number(&rt, 2) else {
-        usage(&rt);
-        return;
-    };
-    let Some(number) = arguments::number(&rt, 3) else {
-        usage(&rt);
-        return;
-    };
-    let Some(earlier) = arguments::number(&rt, 4) else {
-        usage(&rt);
-        return;
-    };
+    let [seed, count, number, earlier] = numbers;
     run(&rt, seed, count, number, earlier);
 }

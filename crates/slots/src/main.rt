@@ -120,31 +120,33 @@ fn write_requested(rt: &impl Print, text: &[u8], request: Request) -> Result<usi
 }
 
 // What an option alone asks for.
+#[tactic(auto, using(crate::proofs::OptionBytes::same_bytes_lem), unfolding(crate::specs::Requests::alone))]
 fn option_alone(option: &[u8]) -> Request
     ensures { result ≡ alone option.now }
 {
-    if check::same(option, b"--operator") {
+    if option == b"--operator".as_slice() {
         return Request::Printout {
             audience: Audience::Operator,
         };
     }
-    if check::same(option, b"--counts") {
+    if option == b"--counts".as_slice() {
         return Request::Bill;
     }
-    if check::same(option, b"--help") {
+    if option == b"--help".as_slice() {
         return Request::Help;
     }
     Request::Unknown
 }
 
 // What an option with a number asks for.
+#[tactic(auto, using(crate::proofs::OptionBytes::same_bytes_lem), unfolding(crate::specs::Requests::numbered))]
 fn option_with(option: &[u8], value: u32) -> Request
     ensures { result ≡ numbered option.now value }
 {
-    if check::same(option, b"--sure") {
+    if option == b"--sure".as_slice() {
         return Request::Forecast { ticks: value };
     }
-    if check::same(option, b"--tenant") {
+    if option == b"--tenant".as_slice() {
         return Request::Printout {
             audience: Audience::Tenant { id: value },
         };
@@ -153,34 +155,32 @@ fn option_with(option: &[u8], value: u32) -> Request
 }
 
 // What the arguments ask for, of which there are so many, the program's name among them.
+#[tactic(auto, unfolding(crate::specs::Requests::asked))]
 fn request_of(count: usize, option: &[u8], number: &[u8]) -> Request
     ensures { result ≡ asked count option.now (word_of number.now) }
 {
-    if count <= NO_ARGUMENTS {
-        return Request::Printout {
+    match count {
+        0 | NO_ARGUMENTS => Request::Printout {
             audience: Audience::Caller,
-        };
+        },
+        OPTION => option_alone(option),
+        NUMBERED => match parser::number(number) {
+            Some(value) => option_with(option, value),
+            None => Request::Unknown,
+        },
+        _ => Request::Unknown,
     }
-    if count == OPTION {
-        return option_alone(option);
-    }
-    if count != NUMBERED {
-        return Request::Unknown;
-    }
-    let word = parser::number(number);
-    let Some(value) = word else {
-        return Request::Unknown;
-    };
-    option_with(option, value)
 }
 
 // No contract can say what the arguments are.
 fn read_arguments(rt: &impl Env) -> Request {
     let mut option = [0u8; ARGUMENT];
     let mut number = [0u8; ARGUMENT];
-    let first = arguments::read(rt, 1, &mut option);
-    let second = arguments::read(rt, 2, &mut number);
-    request_of(arguments::count(rt), &option[..first], &number[..second])
+    request_of(
+        arguments::count(rt),
+        arguments::read(rt, 1, &mut option),
+        arguments::read(rt, 2, &mut number),
+    )
 }
 
 // Does what is asked for, or gives what failed, and why. The room for the text is more than the longest that is read, so that a longer

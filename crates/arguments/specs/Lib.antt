@@ -1,0 +1,2 @@
+-- What it is that arguments are numbers.
+pub mod Numbers
