@@ -36,10 +36,8 @@ fn print_lines(out: &mut [u8], control: Control, counts: &[u64; COUNTS]) -> usiz
     ensures { (t : Tables) → t.counts ≡ counts.now → AllLines (whole_of control t) out.new result }
 {
     let mut end: usize = 0;
-    let mut id: u32 = 0;
-    while id < IDS {
+    for id in 0..IDS {
         end = print_line(out, end, control, counts, id);
-        id += 1;
     }
     end
 }
