@@ -49,6 +49,7 @@ pub struct Taken {
 }
 
 // One of two numbers, as the upper half of a draw is odd or even.
+#[tactic(auto, unfolding(crate::specs::Calls::by_upper))]
 fn by_upper(v: u32, odd: u32, even: u32) -> u32
     ensures { result ≡ by_upper v odd even }
 {
@@ -62,12 +63,14 @@ fn id_of(b: u32) -> u32
 }
 
 // A rate of client 0 may be so large that its bucket fills again while packets of others go out, and its queue gets full.
+#[tactic(auto, unfolding(crate::specs::Calls::rate_of))]
 fn rate_of(id: u32, d: u32) -> u32
     ensures { result ≡ rate_of id d }
 {
     if id == 0 { d % 1025 } else { d % 17 }
 }
 
+#[tactic(auto, unfolding(crate::specs::Calls::burst_of))]
 fn burst_of(kind: u32, d: u32) -> u32
     ensures { result ≡ burst_of kind d }
 {
@@ -83,12 +86,13 @@ pub fn packet_of(c: u32, d: u32) -> Packet
     ensures { result ≡ packet_of c d }
 {
     Packet {
-        handle: c as u64 * WORD + d as u64,
+        handle: u64::from(c) * WORD + u64::from(d),
         length: 63 + c % 1457,
     }
 }
 
 // A load, an arrival or a tick.
+#[tactic(auto, unfolding(crate::specs::Calls::traffic_at))]
 fn traffic_of(quiet: bool, k: u32, id: u32, c: u32, d: u32) -> Call
     ensures { result ≡ traffic_at quiet k id c d }
 {
@@ -113,12 +117,14 @@ fn k_of(a: u32) -> u32
 }
 
 // Whether the time is quiet after a call.
+#[tactic(auto, unfolding(crate::specs::Calls::quiet_after))]
 fn quiet_after(k: u32, quiet: bool) -> bool
     ensures { result ≡ quiet_after k quiet }
 {
     if k >= 16380 { !quiet } else { quiet }
 }
 
+#[tactic(auto, unfolding(crate::specs::LongRun::nth_draw))]
 pub fn draw(maker: Maker) -> Draws
     ensures { Drawn maker result }
 {
@@ -140,6 +146,7 @@ pub fn draw(maker: Maker) -> Draws
 }
 
 // The call of the table at k, in a busy time or in a quiet one.
+#[tactic(auto, unfolding(crate::specs::Calls::call_at))]
 pub fn call_of(quiet: bool, k: u32, b: u32, c: u32, d: u32) -> Call
     ensures { result ≡ call_at quiet k b c d }
 {
@@ -177,14 +184,14 @@ pub fn call_of(quiet: bool, k: u32, b: u32, c: u32, d: u32) -> Call
     traffic_of(quiet, k, id, c, d)
 }
 
+#[tactic(auto, unfolding(crate::specs::Check::mix))]
 fn mix(h: u32, w: u32) -> u32
     ensures { result ≡ mix h w }
 {
-    Generator::new(std::num::wrapping_add_u32(h, w))
-        .step()
-        .value
+    Generator::new(h.wrapping_add(w)).step().value
 }
 
+#[tactic(auto, unfolding(crate::specs::Check::check_with, crate::specs::Check::words, crate::specs::Check::slot_words, crate::specs::Check::mixed))]
 fn check_slot(h: u32, outcome: Outcome) -> u32
     ensures { result ≡ check_with h (Answer.Slot outcome) }
 {
@@ -206,6 +213,7 @@ fn check_slot(h: u32, outcome: Outcome) -> u32
 }
 
 // The check with an answer's words mixed in.
+#[tactic(auto, unfolding(crate::specs::Check::check_with, crate::specs::Check::words, crate::specs::Check::mixed))]
 fn check(h: u32, answer: Answer) -> u32
     ensures { result ≡ check_with h answer }
 {
@@ -275,10 +283,8 @@ pub fn calls(progress: Progress, tables: &mut Tables, count: u32) -> Progress
         tables.new }
 {
     let mut at = progress;
-    let mut made: u32 = 0;
-    while made < count {
+    for _ in 0..count {
         at = call_once(at, tables);
-        made += 1;
     }
     at
 }
