@@ -313,10 +313,7 @@ pub struct Ticked {
 
 // One slot (paper 01, "Tick is one slot"): rules 1 to 3 say whose it is, and rule 4 refills after the pick. What was sent is counted.
 // Refused: 19.
-pub fn tick(
-    control: Control,
-    tables: &mut Tables,
-) -> Ticked
+pub fn tick(control: Control, tables: &mut Tables) -> Ticked
     requires { Valid control tables.old }
     ensures promised { Promised Tick control
         tables.old
@@ -334,7 +331,14 @@ pub fn tick(
     }
     let choice = turn(control, &tables.terms, &tables.links);
     let sample = choice.sample;
-    let sent = spend(control, &mut tables.stocks, &tables.handles, &tables.lengths, &mut tables.links, choice);
+    let sent = spend(
+        control,
+        &mut tables.stocks,
+        &tables.handles,
+        &tables.lengths,
+        &mut tables.links,
+        choice,
+    );
     refill_all(control.indifferent, &mut tables.terms);
     let after = sent.control;
     let outcome = sent.outcome;

@@ -1,9 +1,10 @@
 -- The tables of the core (paper 01: "an array .. of handles and one of lengths, filled at opening"), with an entry for each place
 -- of each id. What a client has once, its terms, is one table, and what it has to send, its stock, is another; each has several
 -- numbers for each id, one column after the other. The counts of the ids lie as crates/counts says.
-use Rattle.std.specs.Prelude.{ℕ, zero, suc, ◌+◌, ◌*◌, ◌%◌, List, [], ◌∷◌, get_or, set}
+use Rattle.std.specs.Prelude.{ℕ, zero, suc, ◌+◌, ◌*◌, ◌%◌, List, [], ◌∷◌, get_or, set, replicate}
 use Rattle.definitions.specs.Sizes.{ids, places}
-
+use Rattle.order.specs.Order.{link_count}
+use Rattle.counts.specs.CountTable.{count_columns}
 pub use Rattle.tables.specs.declared.Tables.{Tables}
 
 abbrev pub tables : List ℕ → List ℕ → List ℕ → List ℕ → List ℕ → List ℕ → Tables
@@ -75,3 +76,9 @@ count_at = field count_column
 unfoldable pub ring : ℕ → ℕ → ℕ → List ℕ
 ring id head zero = []
 ring id head (suc n) = (id * places + head % places) ∷ ring id (suc head) n
+
+-- tables that hold a number throughout, of which a length keeps 16 bits
+abbrev pub filled : ℕ → Tables
+filled n =
+    tables (replicate (term_columns * ids) n) (replicate (stock_columns * ids) n) (replicate (ids * places) n) (replicate (ids * places) (n % 65536))
+    (replicate link_count n) (replicate (count_columns * ids) n)

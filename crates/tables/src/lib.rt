@@ -7,6 +7,7 @@ ghost use Rattle.definitions.specs.Checks.{active_checks};
 ghost use Rattle.definitions.specs.Refusals.{number_in};
 ghost use Rattle.tables.specs.Controls.{with_generator};
 ghost use Rattle.tables.specs.declared.Tables.{Tables};
+ghost use Rattle.tables.specs.Tables.{filled};
 ghost use Rattle.tables.specs.Meaning.{kind_at};
 ghost use Rattle.tables.specs.Numbers.{refusal};
 
@@ -73,7 +74,9 @@ pub struct Tables {
 
 impl Tables {
     // Tables that hold a number throughout.
-    pub fn filled(number: u32) -> Tables {
+    pub fn filled(number: u32) -> Tables
+        ensures { result ≡ filled number }
+    {
         Tables {
             terms: [number; TERMS],
             stocks: [number; STOCKS],
