@@ -26,3 +26,8 @@ number_of Unfair = 22
 abbrev pub number_in : {A : Type 0} → Result A Refusal → ℕ
 number_in (Ok x) = 0
 number_in (Err r) = number_of r
+
+-- and the same with its number in place of the refusal
+abbrev pub numbered : {A : Type 0} → Result A Refusal → Result A ℕ
+numbered (Ok x) = Ok x
+numbered (Err r) = Err (number_of r)

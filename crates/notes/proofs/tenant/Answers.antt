@@ -12,12 +12,12 @@ returns-in-Err c t =
     told-refused a.control t a.id a.answer a.reason (c.number.ensures ∙ c.in-Err.ensures t)
     (λ e. number_of_some c.in-Err.refusal (sym c.number.ensures ∙ e))
 
-pub returns-in_default : goal.returns-in_default
-returns-in_default c t =
+pub returns-in_default-holder_of : goal.returns-in_default-holder_of
+returns-in_default-holder_of c t =
     let a = c.args in
     c.operator-whole.ensures
     ∙ told-nobody a.control t a.id a.answer a.reason (c.in_default.ensures t) refl
-    (omega (arith, c.in_default.ensures))
+    (omega (arith, c.in_default-holder_of.ensures))
 
 pub returns-then-holder-id : goal.returns-then-holder-id
 returns-then-holder-id c t =

@@ -12,9 +12,7 @@ use Rattle.sheets.proofs.sheet.Goals as goal
 
 pub returns-in-Err : goal.returns-in-Err
 returns-in-Err c t e =
-    let a = c.args in
-    sheet-refused a.control t a.id _ (c.number.ensures ∙ c.in-Err.ensures t)
-    (λ z. number_of_some c.in-Err.refusal (sym c.number.ensures ∙ z))
+    sheet-refused c.args.control t c.args.id _ (c.in-Err.ensures t) (number_of_some c.in-Err.refusal)
 
 pub sheet-requires : goal.sheet-requires
 sheet-requires c =
