@@ -18,7 +18,7 @@ ghost use Rattle.tables.specs.Places.{Promised};
 ghost use Rattle.settings.specs.Writes.{Room, Ready, with_terms, retuned_level, rates_after, with_bare};
 ghost use Rattle.settings.specs.Writes.{Remarked, Recast, Quiet, Withdrawn, Withdraws, Empties};
 
-use counts::{COUNTS, EMPTIED};
+use counts::{COUNTS, Counted};
 use definitions::{BURST_LIMIT, IDS, INDIFFERENT, PLACES, PRIVATE, SHARES};
 use order::LINKS;
 use tables::{
@@ -321,7 +321,7 @@ pub fn change(
     if keeps_kind(control, id, kind) {
         return tables::accepted(retune(control, terms, id, rate, burst));
     }
-    counts::raise(counts, id, EMPTIED, waiting_of(stocks, id));
+    counts::raise(counts, id, Counted::Emptied, waiting_of(stocks, id));
     let bare = empty(control, stocks, links, id);
     tables::accepted(place_client(bare, terms, id, kind, rate, burst))
 }

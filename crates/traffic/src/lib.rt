@@ -10,7 +10,7 @@ ghost use Rattle.tables.specs.Invariant.{Valid};
 ghost use Rattle.tables.specs.Numbers.{refusal};
 ghost use Rattle.tables.specs.Places.{Promised};
 
-use counts::{ACCEPTED, COUNTS};
+use counts::{COUNTS, Counted};
 use definitions::{LONGEST, PLACES, POOL_LIMIT, Packet, SHARES, SHORTEST};
 use order::LINKS;
 use tables::{Answered, COUNT, Control, HEAD, LEVEL, POOL, STOCKS, STORE, TERMS};
@@ -170,6 +170,6 @@ pub fn arrive(
     }
     let mut after = control;
     after.waiting = marks::mark(control.waiting, id);
-    counts::raise(counts, id, ACCEPTED, 1);
+    counts::raise(counts, id, Counted::Accepted, 1);
     tables::accepted(after)
 }

@@ -2,8 +2,7 @@
 -- kind stays, and emptied and placed anew where it differs. Assumes nothing.
 use borrow.Author.Rules.{rules}
 use mathlib.Core.Path.{refl, sym, ◌∙◌}
-use lib.Dec.{lit<}
-use Rattle.definitions.specs.Counts.{column, count_emptied}
+use Rattle.definitions.specs.Counts.{column}
 use Rattle.tables.proofs.Promises.{meets_recounted, in_place}
 use Rattle.settings.proofs.ChangePromise.{change_others, change_refused, change_active, change_room, change_ready}
 use Rattle.settings.proofs.ChangePromise.{change_below, change_room_bare, change_retuned, change_placed}
@@ -77,7 +76,7 @@ raise-requires c κs =
     let start = e in
     let a = start.args in
     let none = sym (e.change_number-number.ensures _ _ _ _ _ start.requires) ∙ e.if-number-ne0.false in
-    (change_below a.control _ start.requires a.id a.kind a.rate a.burst none, lit< tt)
+    change_below a.control _ start.requires a.id a.kind a.rate a.burst none
 
 empty-bare-requires : tie.Need-empty-bare-requires
 empty-bare-requires c κs =
@@ -112,7 +111,7 @@ returns c =
     let a = start.args in
     let none = sym (e.change_number-number.ensures _ _ _ _ _ start.requires) ∙ e.if-number-ne0.false in
     let differs = sym f.keeps_kind.ensures ∙ f.if-keeps_kind.false in
-    let entries = rw raised.waiting_of.ensures at (raised.raise.ensures count_emptied refl) in
+    let entries = rw raised.waiting_of.ensures at (raised.raise.ensures) in
     in_place refl refl
     (change_placed_counts a.control _ start.requires a.id a.kind a.rate a.burst none
     q.result _ _ q.ensures p.result p.ensures.0 differs c.accepted-2.result _ c.accepted-2.ensures entries)

@@ -3,10 +3,9 @@
 use borrow.Author.Rules.{rules}
 use Prim.Native.Nat.{◌≤◌, ◌<◌}
 use mathlib.Core.Path.{◌≡◌, refl, sym, ◌∙◌}
-use lib.Dec.{lit<}
 use Rattle.definitions.specs.Sizes.{ids, places, longest}
 use Rattle.definitions.specs.Client.{is_indifferent}
-use Rattle.definitions.specs.Counts.{column, count_accepted}
+use Rattle.definitions.specs.Counts.{column}
 use Rattle.definitions.specs.Answers.{is_accepted}
 use Rattle.definitions.specs.Checks.{arrive_checks}
 use Rattle.tables.specs.Tables.{Tables, tables, count_at}
@@ -147,7 +146,7 @@ mark-requires c κs = search rules
 raise-requires : tie.Need-raise-requires
 raise-requires c κs =
     let join = c in
-    (below c.before.before.before.before.before.before.before.before.before.before, lit< tt)
+    below c.before.before.before.before.before.before.before.before.before.before
 
 accepted-requires : tie.Need-accepted-requires
 accepted-requires c κs = search rules
@@ -163,7 +162,7 @@ returns c =
     let kept = join.keep in
     let free = join.free_place-place in
     let counted = join.count_up in
-    let entries = raised.raise.ensures count_accepted refl in
+    let entries = raised.raise.ensures in
     with_places c.accepted.ensures refl
     (arrive_counts start.args.control (entry c.before.before.before.before.before.before.before.before.before.before.before.before) start.requires start.args.id start.args.packet (none c.before.before.before.before.before.before.before.before.before.before.before.before)
     marked.mark.result c.accepted.result _ c.accepted.ensures entries)
