@@ -4,10 +4,22 @@ use Rattle.std.specs.Prelude.{◌≡◌, ℕ, ◌+◌, ◌*◌, ◌<◌, cond, L
 use Rattle.definitions.specs.declared.Outcome.{Outcome}
 use Rattle.definitions.specs.declared.Outcome.TheVariants.{Real, Dummy, Idle, None}
 use Rattle.definitions.specs.Sizes.{ids}
-use Rattle.definitions.specs.Counts.{Count, column, Tally, Entry, nothing, entered, wrapped_plus}
+use Rattle.counts.specs.declared.Counted.{Counted}
+use Rattle.counts.specs.declared.Counted.TheVariants.{Accepted, Sent, Full, Drained, Emptied, Dummies}
+use Rattle.definitions.specs.Counts.{Count, count_accepted, count_sent, count14, count15, count_emptied, count_dummies}
+use Rattle.definitions.specs.Counts.{column, Tally, Entry, nothing, entered, wrapped_plus}
 
 abbrev pub count_columns : ℕ
 count_columns = 6
+
+-- the count that the code names so
+abbrev pub count_named : Counted → Count
+count_named Accepted = count_accepted
+count_named Sent = count_sent
+count_named Full = count14
+count_named Drained = count15
+count_named Emptied = count_emptied
+count_named Dummies = count_dummies
 
 -- where a count of an id stands, by its column
 abbrev pub count_entry : ℕ → ℕ → ℕ

@@ -21,7 +21,7 @@ ghost use Rattle.tables.specs.Places.{Promised};
 ghost use Rattle.settings.specs.Writes.{Room, Ready, with_terms, retuned_level, rates_after, with_bare};
 ghost use Rattle.settings.specs.Writes.{Remarked, Recast, Quiet, Withdrawn, Withdraws, Empties};
 
-use counts::EMPTIED;
+use counts::Counted;
 use definitions::{BURST_LIMIT, ClientKind, IDS, PLACES, Refusal, SHARES};
 use order::LINKS;
 use tables::{Answered, BURST, COUNT, Control, HEAD, LEVEL, POOL, RATE, STOCKS, TERMS, Tables};
@@ -299,7 +299,7 @@ pub fn change(
     counts::raise(
         &mut tables.counts,
         id,
-        EMPTIED,
+        Counted::Emptied,
         waiting_of(&tables.stocks, id),
     );
     let bare = empty(control, &mut tables.stocks, &mut tables.links, id);

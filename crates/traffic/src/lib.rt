@@ -11,7 +11,7 @@ ghost use Rattle.tables.specs.Invariant.{Valid};
 ghost use Rattle.tables.specs.Numbers.{refusal};
 ghost use Rattle.tables.specs.Places.{Promised};
 
-use counts::ACCEPTED;
+use counts::Counted;
 use definitions::{LONGEST, PLACES, POOL_LIMIT, Packet, Refusal, SHARES, SHORTEST};
 use tables::{Answered, COUNT, Control, HEAD, LEVEL, POOL, STOCKS, STORE, TERMS, Tables};
 
@@ -140,6 +140,6 @@ pub fn arrive(control: Control, tables: &mut Tables, id: u32, packet: Packet) ->
     }
     let mut after = control;
     after.waiting = marks::mark(control.waiting, id);
-    counts::raise(&mut tables.counts, id, ACCEPTED, 1);
+    counts::raise(&mut tables.counts, id, Counted::Accepted, 1);
     tables::accepted(after)
 }

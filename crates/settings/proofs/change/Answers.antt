@@ -1,8 +1,7 @@
 -- `settings::change` meets its contract: it is refused with the first number that fails; else the client is retuned where its
 -- kind stays, and emptied and placed anew where it differs. Assumes nothing.
 use mathlib.Core.Path.{refl, sym, ◌∙◌}
-use lib.Dec.{lit<}
-use Rattle.definitions.specs.Counts.{column, count_emptied}
+use Rattle.definitions.specs.Counts.{column}
 use Rattle.definitions.proofs.Laws.Kinds.{kind_read}
 use Rattle.definitions.proofs.Laws.Refused.{number_of_some}
 use Rattle.tables.proofs.Promises.{meets_recounted, in_place}
@@ -50,7 +49,7 @@ waiting_of-requires c =
 pub raise-requires : goal.raise-requires
 raise-requires c =
     let a = c.args in
-    (change_below a.control _ c.requires a.id a.kind a.rate a.burst (sym c.in-Ok.ensures.number), lit< tt)
+    change_below a.control _ c.requires a.id a.kind a.rate a.burst (sym c.in-Ok.ensures.number)
 
 pub empty-bare-requires : goal.empty-bare-requires
 empty-bare-requires c =
@@ -73,7 +72,7 @@ returns c =
     let read = kind_read a.kind c.in-Ok.named c.in-Ok.ensures.named in
     let differs = rw read at (sym c.keeps_kind.ensures ∙ c.if-keeps_kind.false) in
     let cast = rw read at p.ensures.recast in
-    let entries = rw c.waiting_of.ensures at (c.raise.ensures count_emptied refl) in
+    let entries = rw c.waiting_of.ensures at c.raise.ensures in
     in_place refl refl
     (change_placed_counts a.control _ c.requires a.id a.kind a.rate a.burst none
     q.result _ _ q.ensures p.result cast differs c.accepted-2.result _ c.accepted-2.ensures entries)

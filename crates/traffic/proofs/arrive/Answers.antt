@@ -1,6 +1,6 @@
 -- `traffic::arrive` meets its contract: it is refused with the first check that fails, and else the packet is the last of its client's. Assumes
 -- nothing.
-use Rattle.std.proofs.Common.{arith, ◌≡◌, ◌+◌, ◌≤◌, ◌<◌, ℕ, refl, sym, ap, subst, lit<}
+use Rattle.std.proofs.Common.{arith, ◌≡◌, ◌+◌, ◌≤◌, ◌<◌, ℕ, refl, sym, ap, subst}
 use mathlib.Core.Path.{◌∙◌}
 use Rattle.definitions.specs.Sizes.{ids, places, longest}
 use Rattle.definitions.specs.Client.{is_indifferent}
@@ -69,7 +69,7 @@ pub push-requires : goal.push-requires
 push-requires c = (shape c.args.control c.args.tables.now c.requires c.args.id c.args.packet (sym (c.in_default.ensures _ _ _ _))).sound
 
 pub raise-requires : goal.raise-requires
-raise-requires c = (below c.args.control c.args.tables.now c.requires c.args.id c.args.packet (sym (c.in_default.ensures _ _ _ _)), lit< tt)
+raise-requires c = below c.args.control c.args.tables.now c.requires c.args.id c.args.packet (sym (c.in_default.ensures _ _ _ _))
 
 pub returns : goal.returns
 unfolding is_accepted column shape
@@ -103,7 +103,7 @@ returns c =
             ap (λ (t : Tables). t.counts) w.tables-is,
           )
     ] in
-    let entries = subst (λ counts. Entered (for_one a.id (more count_accepted 1)) counts c.raise.new.counts) met.5 (c.raise.ensures count_accepted refl) in
+    let entries = subst (λ counts. Entered (for_one a.id (more count_accepted 1)) counts c.raise.new.counts) met.5 (c.raise.ensures) in
     with_places c.accepted.ensures refl
     (arrive_counts a.control a.tables.now c.requires a.id a.packet none c.mark.result c.accepted.result _ c.accepted.ensures entries)
     (rw (met.0, met.2, met.3, met.4, c.count_up.ensures, c.keep.ensures.handles_after, c.keep.ensures.lengths_after, c.free_place-place.ensures)
