@@ -1,9 +1,10 @@
 -- The tables of the core (paper 01: "an array .. of handles and one of lengths, filled at opening"), with an entry for each place
 -- of each id. What a client has once, its terms, is one table, and what it has to send, its stock, is another; each has several
 -- numbers for each id, one column after the other. The counts of the ids lie as crates/counts says.
-use Rattle.std.specs.Prelude.{ℕ, zero, suc, ◌+◌, ◌*◌, ◌%◌, List, [], ◌∷◌, get_or, set}
+use Rattle.std.specs.Prelude.{ℕ, zero, suc, ◌+◌, ◌*◌, ◌%◌, List, [], ◌∷◌, get_or, set, replicate}
 use Rattle.definitions.specs.Sizes.{ids, places}
-
+use Rattle.order.specs.Order.{link_count}
+use Rattle.counts.specs.CountTable.{count_columns}
 pub use Rattle.tables.specs.declared.Tables.{Tables}
 
 abbrev pub tables : List ℕ → List ℕ → List ℕ → List ℕ → List ℕ → List ℕ → Tables
@@ -41,6 +42,12 @@ pool_column = 2
 
 abbrev pub stock_columns : ℕ
 stock_columns = 3
+
+-- tables that hold a number throughout, a length what it keeps of it
+abbrev pub filled : ℕ → Tables
+filled number =
+    tables (replicate (term_columns * ids) number) (replicate (stock_columns * ids) number) (replicate (ids * places) number)
+    (replicate (ids * places) (number % 65536)) (replicate link_count number) (replicate (count_columns * ids) number)
 
 -- where an id's number stands in a table
 abbrev pub entry : ℕ → ℕ → ℕ

@@ -7,6 +7,7 @@ ghost use Rattle.definitions.specs.Checks.{active_checks};
 ghost use Rattle.definitions.specs.Refusals.{number_in};
 ghost use Rattle.tables.specs.Controls.{with_generator};
 ghost use Rattle.tables.specs.declared.Tables.{Tables};
+ghost use Rattle.tables.specs.Tables.{filled};
 ghost use Rattle.tables.specs.Meaning.{kind_at};
 ghost use Rattle.tables.specs.Numbers.{refusal};
 
@@ -72,8 +73,10 @@ pub struct Tables {
 }
 
 impl Tables {
-    // Tables that hold a number throughout.
-    pub fn filled(number: u32) -> Tables {
+    // Tables that hold a number throughout; what a length keeps of it, in their column.
+    pub fn filled(number: u32) -> Tables
+        ensures { result ≡ filled number }
+    {
         Tables {
             terms: [number; TERMS],
             stocks: [number; STOCKS],
@@ -103,19 +106,13 @@ pub fn accepted(control: Control) -> Answered
     }
 }
 
-// The control with another generator. The borrow checker covers no store to a field that is a struct, so it is made anew, and here alone.
+// The control with another generator.
 pub fn with_generator(control: Control, generator: Generator) -> Control
     ensures { result ≡ with_generator control generator }
 {
     Control {
-        opened: control.opened,
-        threshold: control.threshold,
-        discipline: control.discipline,
         generator,
-        rates: control.rates,
-        indifferent: control.indifferent,
-        private: control.private,
-        waiting: control.waiting,
+        ..control
     }
 }
 
@@ -123,22 +120,19 @@ pub fn with_generator(control: Control, generator: Generator) -> Control
 pub fn lengthened(x: u16) -> u32
     ensures { result ≡ x }
 {
-    x as u32
+    u32::from(x)
 }
 
 pub fn wide(x: u32) -> u64
     ensures { (result ≡ x) × (result < 2 ^ 32) }
 {
-    x as u64
+    u64::from(x)
 }
 
 pub fn active(control: Control, id: u32) -> bool
     ensures { result ≡ is_active (kind_at control id) }
 {
-    if marks::has(control.indifferent, id) {
-        return true;
-    }
-    marks::has(control.private, id)
+    marks::has(control.indifferent, id) || marks::has(control.private, id)
 }
 
 // What a call for an active client is refused for, before anything else of it counts: 19, 4, 5.
