@@ -43,6 +43,12 @@ pool_column = 2
 abbrev pub stock_columns : ℕ
 stock_columns = 3
 
+-- tables that hold a number throughout, a length what it keeps of it
+abbrev pub filled : ℕ → Tables
+filled number =
+    tables (replicate (term_columns * ids) number) (replicate (stock_columns * ids) number) (replicate (ids * places) number)
+    (replicate (ids * places) (number % 65536)) (replicate link_count number) (replicate (count_columns * ids) number)
+
 -- where an id's number stands in a table
 abbrev pub entry : ℕ → ℕ → ℕ
 entry column id = column * ids + id
@@ -76,9 +82,3 @@ count_at = field count_column
 unfoldable pub ring : ℕ → ℕ → ℕ → List ℕ
 ring id head zero = []
 ring id head (suc n) = (id * places + head % places) ∷ ring id (suc head) n
-
--- tables that hold a number throughout, of which a length keeps 16 bits
-abbrev pub filled : ℕ → Tables
-filled n =
-    tables (replicate (term_columns * ids) n) (replicate (stock_columns * ids) n) (replicate (ids * places) n) (replicate (ids * places) (n % 65536))
-    (replicate link_count n) (replicate (count_columns * ids) n)

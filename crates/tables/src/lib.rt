@@ -106,19 +106,13 @@ pub fn accepted(control: Control) -> Answered
     }
 }
 
-// The control with another generator. The borrow checker covers no store to a field that is a struct, so it is made anew, and here alone.
+// The control with another generator.
 pub fn with_generator(control: Control, generator: Generator) -> Control
     ensures { result ≡ with_generator control generator }
 {
     Control {
-        opened: control.opened,
-        threshold: control.threshold,
-        discipline: control.discipline,
         generator,
-        rates: control.rates,
-        indifferent: control.indifferent,
-        private: control.private,
-        waiting: control.waiting,
+        ..control
     }
 }
 
@@ -126,22 +120,19 @@ pub fn with_generator(control: Control, generator: Generator) -> Control
 pub fn lengthened(x: u16) -> u32
     ensures { result ≡ x }
 {
-    x as u32
+    u32::from(x)
 }
 
 pub fn wide(x: u32) -> u64
     ensures { (result ≡ x) × (result < 2 ^ 32) }
 {
-    x as u64
+    u64::from(x)
 }
 
 pub fn active(control: Control, id: u32) -> bool
     ensures { result ≡ is_active (kind_at control id) }
 {
-    if marks::has(control.indifferent, id) {
-        return true;
-    }
-    marks::has(control.private, id)
+    marks::has(control.indifferent, id) || marks::has(control.private, id)
 }
 
 // What a call for an active client is refused for, before anything else of it counts: 19, 4, 5.
