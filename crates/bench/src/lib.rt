@@ -6,7 +6,7 @@ ghost use Rattle.definitions.specs.Sizes.{ids};
 ghost use Rattle.tables.specs.Tables.{tables};
 ghost use Rattle.tables.specs.Invariant.{Valid};
 
-use definitions::{Answer, IDS, Outcome, Packet};
+use definitions::{Answer, IDS, INDIFFERENT, Outcome, PRIVATE, Packet};
 use tables::{Control, Tables};
 
 // The longest list of demands.
@@ -38,14 +38,9 @@ pub struct Stage {
 fn code(answer: Answer) -> u64 {
     match answer {
         Answer::Accepted => 1,
-        Answer::Refused { number } => 2 + tables::wide(number),
+        Answer::Refused { number } => 2 + u64::from(number),
         Answer::Slot { outcome } => outcome_code(outcome),
     }
-}
-
-// Three times a number of 64 bits, which may wrap.
-fn thrice(x: u64) -> u64 {
-    std::num::wrapping_add_u64(x, std::num::wrapping_add_u64(x, x))
 }
 
 fn outcome_code(outcome: Outcome) -> u64 {
@@ -56,13 +51,13 @@ fn outcome_code(outcome: Outcome) -> u64 {
             padding,
         } => {
             let short = 1000
-                + tables::wide(id) * 7
-                + tables::wide(packet.length) * 5
-                + tables::wide(padding) * 11;
-            std::num::wrapping_add_u64(short, thrice(packet.handle))
+                + u64::from(id) * 7
+                + u64::from(packet.length) * 5
+                + u64::from(padding) * 11;
+            short.wrapping_add(packet.handle.wrapping_mul(3))
         }
-        Outcome::Dummy { id } => 500 + tables::wide(id),
-        Outcome::Idle { id } => 600 + tables::wide(id),
+        Outcome::Dummy { id } => 500 + u64::from(id),
+        Outcome::Idle { id } => 600 + u64::from(id),
         Outcome::None => 700,
     }
 }
@@ -82,11 +77,8 @@ fn join_ids(
         tables.new }
 {
     let mut at = control;
-    let mut id = first;
-    while id < end {
-        let r = settings::join(at, tables, id, kind, rate, burst);
-        at = r.control;
-        id += 1;
+    for id in first..end {
+        at = settings::join(at, tables, id, kind, rate, burst).control;
     }
     at
 }
@@ -97,15 +89,8 @@ fn fill_queue(control: Control, tables: &mut Tables, id: u32, each: u32) -> Cont
     ensures { Valid result tables.new }
 {
     let mut at = control;
-    let mut k: u32 = 0;
-    while k < each {
-        let packet = Packet {
-            handle: id as u64,
-            length: 64,
-        };
-        let r = traffic::arrive(at, tables, id, packet);
-        at = r.control;
-        k += 1;
+    for _ in 0..each {
+        at = traffic::arrive(at, tables, id, packet(id, 64)).control;
     }
     at
 }
@@ -116,19 +101,17 @@ fn fill_queues(control: Control, tables: &mut Tables, n: u32, each: u32) -> Cont
     ensures { Valid result tables.new }
 {
     let mut at = control;
-    let mut id: u32 = 0;
-    while id < n {
+    for id in 0..n {
         at = fill_queue(at, tables, id, each);
-        id += 1;
     }
     at
 }
 
 pub fn add(sum: u64, answer: Answer) -> u64 {
-    std::num::wrapping_add_u64(sum, code(answer))
+    sum.wrapping_add(code(answer))
 }
 
-// The next of n ids, round and round: with a remainder in its place one compiler would divide and another count.
+// The next of n ids or places, round and round: with a remainder in its place one compiler would divide and another count.
 fn next(id: u32, n: u32) -> u32
     requires { id < n }
     ensures { result < n }
@@ -137,18 +120,9 @@ fn next(id: u32, n: u32) -> u32
     if after < n { after } else { 0 }
 }
 
-// The next of n places likewise.
-fn after(i: usize, n: usize) -> usize
-    requires { i < n }
-    ensures { result < n }
-{
-    let more = i + 1;
-    if more < n { more } else { 0 }
-}
-
 fn packet(handle: u32, length: u32) -> Packet {
     Packet {
-        handle: handle as u64,
+        handle: u64::from(handle),
         length,
     }
 }
@@ -170,20 +144,14 @@ fn refused_round(
 {
     let no_sender = beyond + k % 8;
     let no_loader = beyond + k % 4;
-    let right = packet(k, 64);
-    let short = packet(k, 63);
-    let a = traffic::arrive(control, tables, no_sender, right);
-    let first = a.answer;
+    let a = traffic::arrive(control, tables, no_sender, packet(k, 64));
     let b = traffic::load(a.control, tables, no_loader, k);
-    let second = b.answer;
-    let c = settings::join(b.control, tables, id, 2, 1, 0);
-    let third = c.answer;
-    let d = traffic::arrive(c.control, tables, other, short);
-    let fourth = d.answer;
-    let last = d.control;
+    let c = settings::join(b.control, tables, id, PRIVATE, 1, 0);
+    let d = traffic::arrive(c.control, tables, other, packet(k, 63));
+    let first = add(add(sum, a.answer), b.answer);
     Tally {
-        control: last,
-        sum: add(add(add(add(sum, first), second), third), fourth),
+        control: d.control,
+        sum: add(add(first, c.answer), d.answer),
     }
 }
 
@@ -195,12 +163,10 @@ fn refused_rounds(control: Control, tables: &mut Tables, n: u32, beyond: u32, ro
 {
     let mut at = Tally { control, sum: 0 };
     let mut id: u32 = 0;
-    let mut k: u32 = 0;
-    while k < rounds {
+    for k in 0..rounds {
         let other = next(id, n);
         at = refused_round(at.control, tables, id, other, beyond, k, at.sum);
         id = other;
-        k += 1;
     }
     at
 }
@@ -211,19 +177,11 @@ fn traffic_round(control: Control, tables: &mut Tables, id: u32, k: u32, sum: u6
     ensures { Valid result.control
         tables.new }
 {
-    let packet = Packet {
-        handle: k as u64,
-        length: 64 + k % 1024,
-    };
-    let a = traffic::arrive(control, tables, id, packet);
-    let first = a.answer;
-    let ticked = slot::tick(a.control, tables);
-    let b = ticked.answered;
-    let second = b.answer;
-    let last = b.control;
+    let a = traffic::arrive(control, tables, id, packet(k, 64 + k % 1024));
+    let b = slot::tick(a.control, tables).answered;
     Tally {
-        control: last,
-        sum: add(add(sum, first), second),
+        control: b.control,
+        sum: add(add(sum, a.answer), b.answer),
     }
 }
 
@@ -240,11 +198,9 @@ pub fn traffic_rounds(
 {
     let mut at = Tally { control, sum: 0 };
     let mut id = first;
-    let mut k: u32 = 0;
-    while k < rounds {
+    for k in 0..rounds {
         at = traffic_round(at.control, tables, id, k, at.sum);
         id = next(id, n);
-        k += 1;
     }
     at
 }
@@ -252,6 +208,7 @@ pub fn traffic_rounds(
 // The first stage has the indifferent clients, and fills their buckets, which begin empty (paper 02, S-4): of burst 64 and at
 // rate 1024 / n, a bucket is full after 64 * n rounds where n divides 1024, as in every sequence. Their arrivals are refused, for
 // ids that nobody has. The private clients join in the second stage, so that no tick of the first makes a draw.
+#[tactic(auto, unfolding(definitions::specs::Sizes::ids))]
 fn stage_of(k: u32, n: u32, indifferents: u32, each: u32, rounds: u32) -> Stage
     requires { (1 ≤ n) × (n ≤ 2 * ids) }
     ensures { result.from < result.to }
@@ -262,7 +219,7 @@ fn stage_of(k: u32, n: u32, indifferents: u32, each: u32, rounds: u32) -> Stage
         return Stage {
             first: 0,
             end: indifferents,
-            kind: 1,
+            kind: INDIFFERENT,
             rate,
             burst: 64,
             each: 0,
@@ -274,7 +231,7 @@ fn stage_of(k: u32, n: u32, indifferents: u32, each: u32, rounds: u32) -> Stage
     Stage {
         first: indifferents,
         end: n,
-        kind: 2,
+        kind: PRIVATE,
         rate,
         burst: 0,
         each,
@@ -309,20 +266,15 @@ fn run_stages(
         tables.new }
 {
     let mut at = Tally { control, sum: 0 };
-    let mut k: u32 = 0;
-    while k < 2 {
+    for k in 0..2 {
         let s = stage_of(k, n, indifferents, each, rounds);
         at = run_stage(at.control, tables, n, s);
-        k += 1;
     }
     at
 }
 
-fn choose(first: bool, a: u32, b: u32) -> u32 {
-    if first { a } else { b }
-}
-
 // A whole sequence on a fresh core: mode 0 is arrivals and ticks, mode 64 only refused calls.
+#[tactic(auto, unfolding(definitions::specs::Sizes::ids))]
 pub fn bench_run(
     privates: u32,
     indifferents: u32,
@@ -358,7 +310,7 @@ pub fn bench_run(
         n,
         indifferents,
         depth - 1,
-        choose(slots, rounds, 0),
+        if slots { rounds } else { 0 },
     );
     if slots {
         return served.sum;
@@ -370,10 +322,8 @@ pub fn bench_run(
 fn list_ids(listed: &mut [u32; LISTED])
     ensures { length listed.new ≡ length listed.old }
 {
-    let mut id: u32 = 0;
-    while id < IDS {
+    for id in 0..IDS {
         listed[id as usize] = id;
-        id += 1;
     }
 }
 
@@ -382,21 +332,20 @@ fn fair_rounds(
     listed: &[u32],
     demands: &mut [u32],
     rates: &mut [u32],
+    count: u32,
     threshold: u32,
     highest: u32,
     rounds: u32,
 ) -> u64
-    requires { (1 ≤ length demands.old) × (length demands.old ≡ length rates.old) × (1 ≤ highest) }
+    requires { (1 ≤ count) × (length demands.old ≡ count) × (length rates.old ≡ count) × (1 ≤ highest) }
 {
     let mut sum: u64 = 0;
     let mut i = 0;
-    let mut k: u32 = 0;
-    while k < rounds {
-        demands[i] = 1 + k % 1024 * 37 % highest;
+    for k in 0..rounds {
+        demands[i as usize] = 1 + k % 1024 * 37 % highest;
         let answer = maxmin::rates(threshold, listed, demands, rates);
-        sum = std::num::wrapping_add_u64(add(sum, answer), tables::wide(rates[i]));
-        i = after(i, demands.len());
-        k += 1;
+        sum = add(sum, answer).wrapping_add(u64::from(rates[i as usize]));
+        i = next(i, count);
     }
     sum
 }
@@ -421,6 +370,7 @@ pub fn bench_fair(count: u32, threshold: u32, highest: u32, rounds: u32) -> u64 
         &listed[..n],
         &mut demands[..n],
         &mut rates[..n],
+        count,
         threshold,
         highest,
         rounds,

@@ -2,13 +2,14 @@
 // of its own, since the compiler inlines a tick into the rounds of `bench` only where nothing else there calls them.
 #![tactic(auto)]
 
-ghost use Rattle.std.specs.Prelude.{◌<◌, ◌≤◌};
+ghost use Rattle.std.specs.Prelude.{◌≡◌, ◌<◌, ◌≤◌};
 ghost use Rattle.tables.specs.Tables.{tables};
 ghost use Rattle.tables.specs.Invariant.{Valid};
+ghost use Rattle.tables.specs.Places.{PlacesStand};
 
 use bench::{Stage, Tally};
 use definitions::{BURST_LIMIT, FIRST_COME, IDS, INDIFFERENT, PRIVATE, SHARES};
-use tables::{Control, Tables};
+use tables::{Answered, Control, Tables};
 
 // The rates of the clients to be emptied, together.
 const OWN_RATES: u32 = 768;
@@ -19,7 +20,7 @@ const CROWD_RATE: u32 = 5;
 const CROWD_TICKS: u32 = BURST_LIMIT * SHARES / CROWD_RATE + 1;
 
 // Which clients are emptied, and how: so many, of a kind and with a rate, to whom packets come, first some at once and then in
-// rounds. They leave, where the new kind is 0, or change to it.
+// rounds. They change to the new kind, or leave where there is none.
 #[derive(Clone, Copy)]
 pub struct Plan {
     pub clients: u32,
@@ -27,7 +28,7 @@ pub struct Plan {
     pub rate: u32,
     pub each: u32,
     pub filling: u32,
-    pub to: u32,
+    pub to: Option<u32>,
     pub burst: u32,
 }
 
@@ -76,60 +77,52 @@ fn begin(tables: &mut Tables) -> Control
     ensures { Valid result tables.new }
 {
     let shut = opening::unopened();
-    let r = opening::open(shut, tables, SHARES, FIRST_COME, 1);
-    r.control
+    opening::open(shut, tables, SHARES, FIRST_COME, 1).control
 }
 
-// The clients below the end leave, one after the other.
-fn leave_ids(control: Control, tables: &mut Tables, end: u32, before: u64) -> Tally
+// A call's answer goes into the sum.
+fn tallied(sum: u64, answered: Answered) -> Tally
+    ensures { result.control ≡ answered.control }
+{
+    Tally {
+        control: answered.control,
+        sum: bench::add(sum, answered.answer),
+    }
+}
+
+// One client leaves, or changes to the new kind.
+fn empty(control: Control, tables: &mut Tables, id: u32, plan: Plan) -> Answered
     requires { Valid control tables.old }
-    ensures { Valid result.control
+    ensures valid { Valid result.control
+        tables.new }
+    ensures stand { PlacesStand tables.old
         tables.new }
 {
-    let mut at = control;
-    let mut sum = before;
-    let mut id: u32 = 0;
-    while id < end {
-        let r = settings::leave(at, tables, id);
-        let answer = r.answer;
-        at = r.control;
-        sum = bench::add(sum, answer);
-        id += 1;
+    match plan.to {
+        None => settings::leave(control, tables, id),
+        Some(kind) => settings::change(control, tables, id, kind, plan.rate, plan.burst),
     }
-    Tally { control: at, sum }
 }
 
-// They change to the new kind.
-fn change_ids(control: Control, tables: &mut Tables, end: u32, plan: Plan, before: u64) -> Tally
+// The clients below the end are emptied, one after the other.
+fn empty_ids(control: Control, tables: &mut Tables, end: u32, plan: Plan, before: u64) -> Tally
     requires { Valid control tables.old }
-    ensures { Valid result.control
+    ensures valid { Valid result.control
+        tables.new }
+    ensures stand { PlacesStand tables.old
         tables.new }
 {
-    let mut at = control;
-    let mut sum = before;
-    let mut id: u32 = 0;
-    while id < end {
-        let r = settings::change(at, tables, id, plan.to, plan.rate, plan.burst);
-        let answer = r.answer;
-        at = r.control;
-        sum = bench::add(sum, answer);
-        id += 1;
+    let mut at = Tally {
+        control,
+        sum: before,
+    };
+    for id in 0..end {
+        at = tallied(at.sum, empty(at.control, tables, id, plan));
     }
-    Tally { control: at, sum }
+    at
 }
 
-fn empty_ids(control: Control, tables: &mut Tables, end: u32, plan: Plan, sum: u64) -> Tally
-    requires { Valid control tables.old }
-    ensures { Valid result.control
-        tables.new }
-{
-    if plan.to == 0 {
-        return leave_ids(control, tables, end, sum);
-    }
-    change_ids(control, tables, end, plan, sum)
-}
-
-// Rounds in which the tables are put back as they were and the clients are emptied.
+// Rounds in which the tables are put back as they were, but for the places, which stand, and the clients are emptied.
 fn empty_rounds(control: Control, tables: &mut Tables, end: u32, plan: Plan, rounds: u32) -> Tally
     requires { Valid control tables.old }
     ensures { Valid result.control
@@ -140,14 +133,12 @@ fn empty_rounds(control: Control, tables: &mut Tables, end: u32, plan: Plan, rou
     let kept_links = tables.links;
     let kept_counts = tables.counts;
     let mut at = Tally { control, sum: 0 };
-    let mut k: u32 = 0;
-    while k < rounds {
+    for _ in 0..rounds {
         tables.terms = kept_terms;
         tables.stocks = kept_stocks;
         tables.links = kept_links;
         tables.counts = kept_counts;
         at = empty_ids(control, tables, end, plan, at.sum);
-        k += 1;
     }
     at
 }
@@ -173,7 +164,7 @@ fn emptying(tables: &mut Tables, plan: Plan, end: u32, rounds: u32) -> u64
     let a = set_up(tables, plan);
     let b = empty_rounds(a.control, tables, end, plan, rounds);
     let c = bench::traffic_rounds(b.control, tables, 0, n, n);
-    std::num::wrapping_add_u64(std::num::wrapping_add_u64(a.sum, b.sum), c.sum)
+    a.sum.wrapping_add(b.sum).wrapping_add(c.sum)
 }
 
 // Rounds that empty clients with packets waiting.
@@ -195,7 +186,7 @@ pub fn bench_emptying(
         rate: OWN_RATES / clients,
         each,
         filling,
-        to,
+        to: if to == 0 { None } else { Some(to) },
         burst: burst_of(to),
     };
     let mut tables = Tables::filled(0);
@@ -207,17 +198,12 @@ fn open_rounds(control: Control, tables: &mut Tables, rounds: u32) -> Tally
     ensures { Valid result.control
         tables.new }
 {
-    let mut at = control;
-    let mut sum: u64 = 0;
-    let mut k: u32 = 0;
-    while k < rounds {
-        let r = opening::open(at, tables, SHARES, FIRST_COME, k + 1);
-        let answer = r.answer;
-        at = r.control;
-        sum = bench::add(sum, answer);
-        k += 1;
+    let mut at = Tally { control, sum: 0 };
+    for k in 0..rounds {
+        let opened = opening::open(at.control, tables, SHARES, FIRST_COME, k + 1);
+        at = tallied(at.sum, opened);
     }
-    Tally { control: at, sum }
+    at
 }
 
 // The opens, and at last some calls that read what they wrote.
@@ -236,7 +222,7 @@ fn opens(tables: &mut Tables, rounds: u32) -> u64 {
     let begun = begin(tables);
     let a = open_rounds(begun, tables, rounds);
     let b = bench::run_stage(a.control, tables, IDS, last);
-    std::num::wrapping_add_u64(a.sum, b.sum)
+    a.sum.wrapping_add(b.sum)
 }
 
 // Rounds of opening anew.

@@ -2,8 +2,7 @@
 // what it bought. The first argument is the seed, the second how many blocks.
 #![tactic(auto)]
 
-ghost use Rattle.std.specs.Prelude.{◌≡◌, ℕ, ◌*◌, List};
-ghost use Rattle.tables.specs.Tables.{tables};
+ghost use Rattle.std.specs.Prelude.{◌≡◌, ◌*◌};
 ghost use Rattle.tables.specs.Meaning.{core_of};
 ghost use Rattle.tables.specs.Invariant.{Valid};
 ghost use Rattle.runs.specs.LongRun.{block};
@@ -12,17 +11,18 @@ ghost use Rattle.greedy.specs.Phases.{refused_with, offered, joined, paused, tic
 ghost use Rattle.greedy.specs.GreedyRun.{level_in};
 ghost use Rattle.greedy.specs.Stands.{Begins, Goes, Tells};
 
-use definitions::{Answer, INDIFFERENT, SHARES};
+use definitions::{Answer, INDIFFERENT, Refusal, SHARES};
 use grammar::Call;
 use runs::Progress;
 use std::io::Result;
-use tables::{Control, LEVEL, TERMS, Tables};
+use tables::{Control, LEVEL, Tables};
 use tally::BLOCK;
 
 // The client that offers.
 const GREEDY: u32 = 9;
 
-// The phases. From OTHERS up to TICKING they are of other clients' calls.
+// The phases, as numbers: the definitions `call_in` and `turned` say for every number which call comes next, and which number behind it.
+// From OTHERS up to TICKING they are of other clients' calls.
 const OPENING: u32 = 0;
 
 const JOINING: u32 = 1;
@@ -35,10 +35,6 @@ const OTHERS: u32 = 4;
 
 const TICKING: u32 = 8;
 
-// What an arrival is refused with where every place is taken, and where the bucket has no packet left.
-const NO_PLACE: u32 = 14;
-
-const NO_TOKEN: u32 = 15;
 
 // What a run keeps beside its maker of calls and its check: the phase; of the stretch its rate, its level at the start, its
 // ticks and the packets accepted; and the offerings that ended, and those that were exact.
@@ -61,12 +57,14 @@ pub struct GreedyProgress {
 }
 
 // The next number of 32 bits: 0 behind the largest.
+#[tactic(auto, unfolding(crate::specs::Phases::risen))]
 fn rise(n: u32) -> u32
     ensures { result ≡ risen n }
 {
-    std::num::wrapping_add_u32(n, 1)
+    n.wrapping_add(1)
 }
 
+#[tactic(auto, unfolding(crate::specs::Phases::rate_from, definitions::specs::Sizes::shares))]
 fn rate_from(c: u32) -> u32
     ensures { result ≡ rate_from c }
 {
@@ -74,6 +72,7 @@ fn rate_from(c: u32) -> u32
 }
 
 // The call of a phase, from four draws. Other clients' calls are those of a busy time.
+#[tactic(auto, unfolding(crate::specs::Phases::call_in, definitions::specs::Sizes::shares, definitions::specs::Sizes::indifferent_kind))]
 fn call_in(phase: u32, a: u32, b: u32, c: u32, d: u32) -> Call
     ensures { result ≡ call_in phase a b c d }
 {
@@ -99,6 +98,7 @@ fn call_in(phase: u32, a: u32, b: u32, c: u32, d: u32) -> Call
 }
 
 // How many packets the stretch has bought so far.
+#[tactic(auto, unfolding(crate::specs::Phases::bought))]
 fn bought(counts: Counts) -> u64
     ensures { result ≡ bought counts }
 {
@@ -106,107 +106,122 @@ fn bought(counts: Counts) -> u64
 }
 
 // After an arrival that ended an offering.
+#[tactic(auto, unfolding(crate::specs::Phases::ended))]
 fn end(counts: Counts) -> Counts
     ensures { result ≡ ended counts }
 {
-    let mut next = counts;
-    next.phase = OTHERS;
-    next.offerings = rise(counts.offerings);
-    if tables::wide(counts.accepted) == bought(counts) {
-        next.exact = rise(counts.exact);
+    let exact = if u64::from(counts.accepted) == bought(counts) {
+        rise(counts.exact)
+    } else {
+        counts.exact
+    };
+    Counts {
+        phase: OTHERS,
+        offerings: rise(counts.offerings),
+        exact,
+        ..counts
     }
-    next
 }
 
 // After an arrival that was refused.
+#[tactic(auto, unfolding(crate::specs::Phases::refused_with))]
 fn refuse(counts: Counts, number: u32) -> Counts
     ensures { result ≡ refused_with counts number }
 {
-    if number == NO_TOKEN {
+    if number == Refusal::Drained.number() {
         return end(counts);
     }
-    let mut next = counts;
-    if number == NO_PLACE {
-        next.phase = OPENING;
+    if number == Refusal::Full.number() {
+        return Counts {
+            phase: OPENING,
+            ..counts
+        };
     }
-    next
+    counts
 }
 
 // After an arrival.
+#[tactic(auto, unfolding(crate::specs::Phases::offered))]
 fn offer(counts: Counts, answer: Answer) -> Counts
     ensures { result ≡ offered counts answer }
 {
-    let mut next = counts;
     match answer {
-        Answer::Accepted => {
-            next.accepted = rise(counts.accepted);
-            next
-        }
+        Answer::Accepted => Counts {
+            accepted: rise(counts.accepted),
+            ..counts
+        },
         Answer::Refused { number } => refuse(counts, number),
-        Answer::Slot { outcome: _ } => next,
+        Answer::Slot { outcome: _ } => counts,
     }
 }
 
 // After the join.
+#[tactic(auto, unfolding(crate::specs::Phases::joined))]
 fn join(counts: Counts, c: u32) -> Counts
     ensures { result ≡ joined counts c }
 {
-    let mut next = counts;
-    next.phase = PAUSING;
-    next.rate = rate_from(c);
-    next
+    Counts {
+        phase: PAUSING,
+        rate: rate_from(c),
+        ..counts
+    }
 }
 
 // After a tick before the stretch, which left the client a level.
+#[tactic(auto, unfolding(crate::specs::Phases::paused))]
 fn pause(counts: Counts, d: u32, level: u32) -> Counts
     ensures { result ≡ paused counts d level }
 {
-    let mut next = counts;
-    if d % 64 == 0 {
-        next.phase = OFFERING;
-        next.level = level;
-        next.ticks = 0;
-        next.accepted = 0;
+    if d % 64 != 0 {
+        return counts;
     }
-    next
+    Counts {
+        phase: OFFERING,
+        level,
+        ticks: 0,
+        accepted: 0,
+        ..counts
+    }
 }
 
 // After a tick of the stretch.
+#[tactic(auto, unfolding(crate::specs::Phases::ticked))]
 fn tick(counts: Counts, d: u32) -> Counts
     ensures { result ≡ ticked counts d }
 {
-    let mut next = counts;
-    next.ticks = rise(counts.ticks);
-    next.phase = if d % 1024 == 0 { OPENING } else { OFFERING };
-    next
+    Counts {
+        ticks: rise(counts.ticks),
+        phase: if d % 1024 == 0 { OPENING } else { OFFERING },
+        ..counts
+    }
 }
 
 // The counts after the call of their phase, by its answer, two of its draws, and the level that it left the client. After an
 // open, and after another client's call, only the phase goes on.
+#[tactic(auto, unfolding(crate::specs::Phases::turned))]
 fn turn(counts: Counts, answer: Answer, c: u32, d: u32, level: u32) -> Counts
     ensures { result ≡ turned counts answer c d level }
 {
-    let phase = counts.phase;
-    let mut next = counts;
-    next.phase = rise(phase);
-    match phase {
+    match counts.phase {
         JOINING => join(counts, c),
         PAUSING => pause(counts, d, level),
         OFFERING => offer(counts, answer),
         TICKING => tick(counts, d),
-        _ => next,
+        phase => Counts {
+            phase: rise(phase),
+            ..counts
+        },
     }
 }
 
 // The client's level, 0 on an unopened core.
-fn level_of(control: Control, terms: &[u32; TERMS]) -> u32
-    ensures { (stocks handles lengths links counts : List ℕ)
-        → result ≡ level_in (core_of control (tables terms.now stocks handles lengths links counts)) }
+fn level_of(control: Control, tables: &Tables) -> u32
+    ensures { result ≡ level_in (core_of control tables.now) }
 {
     if !control.opened {
         return 0;
     }
-    terms[(LEVEL + GREEDY) as usize]
+    tables.terms[(LEVEL + GREEDY) as usize]
 }
 
 // Before the first call.
@@ -214,7 +229,7 @@ fn begin(seed: u32) -> GreedyProgress
     ensures { Begins seed result }
 {
     let counts = Counts {
-        phase: 0,
+        phase: OPENING,
         rate: 0,
         level: 0,
         ticks: 0,
@@ -235,18 +250,13 @@ fn call_once(at: GreedyProgress, tables: &mut Tables) -> GreedyProgress
         tables.old result
         tables.new }
 {
-    let progress = at.progress;
-    let sofar = at.counts;
-    let draws = runs::draw(progress.maker);
-    let call = call_in(sofar.phase, draws.a, draws.b, draws.c, draws.d);
-    let maker = draws.maker;
-    let taken = runs::take(progress, tables, maker, call);
-    let next = taken.progress;
-    let answer = taken.answer;
-    let level = level_of(next.control, &tables.terms);
+    let draws = runs::draw(at.progress.maker);
+    let call = call_in(at.counts.phase, draws.a, draws.b, draws.c, draws.d);
+    let taken = runs::take(at.progress, tables, draws.maker, call);
+    let level = level_of(taken.progress.control, tables);
     GreedyProgress {
-        progress: next,
-        counts: turn(sofar, answer, draws.c, draws.d, level),
+        progress: taken.progress,
+        counts: turn(at.counts, taken.answer, draws.c, draws.d, level),
     }
 }
 
@@ -258,10 +268,8 @@ fn calls(progress: GreedyProgress, tables: &mut Tables, count: u32) -> GreedyPro
         tables.new }
 {
     let mut at = progress;
-    let mut made: u32 = 0;
-    while made < count {
+    for _ in 0..count {
         at = call_once(at, tables);
-        made += 1;
     }
     at
 }
@@ -291,10 +299,9 @@ fn tell(
 // So many blocks from a seed, with a line after each. It ends at a line that could not be written.
 fn blocks(rt: &(impl Print + Eprint), seed: u32, count: u32, tables: &mut Tables) {
     let mut at = begin(seed);
-    let mut done: u32 = 0;
-    while done < count {
+    for before in 0..count {
         at = calls(at, tables, BLOCK);
-        done += 1;
+        let done = before + 1;
         if !tell(
             rt,
             seed,

@@ -18,10 +18,9 @@ fn tell(rt: &(impl Print + Eprint), seed: u32, blocks: u32, check: u32) -> bool
 // So many blocks from a seed, with a line after each. It ends at a line that could not be written.
 fn blocks(rt: &(impl Print + Eprint), seed: u32, count: u32, tables: &mut Tables) {
     let mut at = runs::begin(seed);
-    let mut done: u32 = 0;
-    while done < count {
+    for before in 0..count {
         at = runs::calls(at, tables, BLOCK);
-        done += 1;
+        let done = before + 1;
         if !tell(rt, seed, done, at.check) {
             return;
         }

@@ -24,6 +24,7 @@ const STRETCH: u32 = 1000;
 const STRETCHES: u32 = BLOCK / STRETCH;
 
 // Whether a packet waits at a place. Before the first open anything stands in the stocks.
+#[tactic(auto, unfolding(definitions::specs::Sizes::ids, definitions::specs::Sizes::places, order::specs::Order::sentinel, order::specs::Owner::owner, tables::specs::Tables::field, crate::specs::Remains::behind_head, crate::specs::Remains::waits_at))]
 fn waits_at(stocks: &[u32; STOCKS], place: u32) -> bool
     requires { place < sentinel }
     ensures { result ≡ waits_at stocks.now place }
@@ -43,6 +44,7 @@ fn lower_half(number: u32) -> u16
 }
 
 // Overwrites one place, unless a packet waits there.
+#[tactic(auto, unfolding(definitions::specs::Sizes::ids, definitions::specs::Sizes::places, order::specs::Order::sentinel, crate::specs::Remains::overwritten_at))]
 fn overwrite_at(
     stocks: &[u32; STOCKS],
     handles: &mut [u64; STORE],
@@ -64,6 +66,7 @@ fn overwrite_at(
 }
 
 // Overwrites every place where no packet waits.
+#[tactic(auto, unfolding(definitions::specs::Sizes::ids, definitions::specs::Sizes::places, order::specs::Order::sentinel, crate::specs::Remains::overwritten_below, crate::specs::Remains::overwritten_unused))]
 fn overwrite_unused(
     stocks: &[u32; STOCKS],
     handles: &mut [u64; STORE],
@@ -74,10 +77,8 @@ fn overwrite_unused(
     ensures handles_after { handles.new ≡ overwritten_unused stocks.now handle handles.old }
     ensures lengths_after { lengths.new ≡ overwritten_unused stocks.now length lengths.old }
 {
-    let mut place: u32 = 0;
-    while place < END {
+    for place in 0..END {
         overwrite_at(stocks, handles, lengths, place, handle, length);
-        place += 1;
     }
 }
 
@@ -93,7 +94,7 @@ fn stretch(progress: Progress, tables: &mut Tables, number: u32) -> Progress
         &tables.stocks,
         &mut tables.handles,
         &mut tables.lengths,
-        number as u64,
+        u64::from(number),
         lower_half(number),
     );
     at
@@ -107,10 +108,8 @@ fn block(progress: Progress, tables: &mut Tables, number: u32) -> Progress
         tables.new }
 {
     let mut at = progress;
-    let mut made: u32 = 0;
-    while made < STRETCHES {
+    for _ in 0..STRETCHES {
         at = stretch(at, tables, number);
-        made += 1;
     }
     at
 }
@@ -125,10 +124,10 @@ fn start(earlier: u32, seed: u32, tables: &mut Tables) -> Progress
     }
     let first = runs::begin(earlier);
     let left = runs::calls(first, tables, BLOCK);
-    let control = left.control;
-    let mut anew = runs::begin(seed);
-    anew.control = control;
-    anew
+    Progress {
+        control: left.control,
+        ..runs::begin(seed)
+    }
 }
 
 // Prints the line of the last of so many blocks. The seeds stand here for the contract: what is printed is their check.
@@ -148,10 +147,9 @@ fn blocks(
     number: u32,
 ) {
     let mut at = start(earlier, seed, tables);
-    let mut done: u32 = 0;
-    while done < count {
+    for before in 0..count {
         at = block(at, tables, number);
-        done += 1;
+        let done = before + 1;
         if !tell(rt, earlier, seed, done, at.check) {
             return;
         }

@@ -1,14 +1,9 @@
--- `greedy::calls` meets its contract: each call goes on where the last one ended. Assumes nothing.
-use Rattle.std.proofs.Common.{arith, rules}
-use Rattle.runs.proofs.Going.{goes_none, goes_as, goes_on}
+-- `greedy::calls`: each call goes on where the last one ended.
+use Rattle.runs.proofs.Going.{goes_none, goes_on}
 use Rattle.greedy.proofs.calls.Goals as goal
 
-pub loop-made-init : goal.loop-made-init
-loop-made-init c = (search rules, goes_none _ _ c.requires)
+pub loop-init : goal.loop-init
+loop-init c = goes_none _ _ c.requires
 
-pub loop-made-preserved : goal.loop-made-preserved
-loop-made-preserved c =
-    (search rules, goes_on c.loop-made.invariant.1 c.call_once-at.ensures)
-
-pub returns : goal.returns
-returns c = goes_as (omega arith) c.loop-made.invariant.1
+pub loop-preserved : goal.loop-preserved
+loop-preserved c = goes_on c.loop.invariant c.call_once-at.ensures

@@ -1,15 +1,13 @@
--- `longrun::blocks` meets its contract: each block goes on where the last one ended. Assumes nothing.
-use Rattle.std.proofs.Common.{arith, rules}
+-- `longrun::blocks`: each block goes on where the last one ended.
+use Rattle.std.proofs.Common.{arith}
 use Rattle.runs.proofs.Going.{goes_none, goes_as, goes_on, check-after}
 use Rattle.longrun.proofs.blocks.Goals as goal
 
-pub loop-done-init : goal.loop-done-init
-loop-done-init g c = (search rules, goes_none _ _ (c.begin-at.ensures.valid _))
+pub loop-before-init : goal.loop-before-init
+loop-before-init g c = goes_none _ _ (c.begin-at.ensures.valid _)
 
 pub tell-requires : goal.tell-requires
-tell-requires g c =
-    check-after _ c.begin-at.ensures (goes_as (omega arith) (goes_on c.loop-done.invariant.1 c.calls-at.ensures))
+tell-requires g c = check-after _ c.begin-at.ensures (goes_as (omega arith) (goes_on c.loop-before.invariant c.calls-at.ensures))
 
-pub loop-done-preserved : goal.loop-done-preserved
-loop-done-preserved g c =
-    (omega (arith, c.loop-done-test.true), goes_as (omega arith) (goes_on c.loop-done.invariant.1 c.calls-at.ensures))
+pub loop-before-preserved : goal.loop-before-preserved
+loop-before-preserved g c = goes_as (omega arith) (goes_on c.loop-before.invariant c.calls-at.ensures)

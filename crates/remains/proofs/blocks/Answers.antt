@@ -1,16 +1,14 @@
--- `remains::blocks` meets its contract: each block goes on where the last one ended. Assumes nothing.
-use Rattle.std.proofs.Common.{arith, rules}
+-- `remains::blocks`: each block goes on where the last one ended.
+use Rattle.std.proofs.Common.{arith}
 use Rattle.runs.proofs.Going.{goes_none, goes_as, goes_on}
 use Rattle.remains.proofs.Starting.{check_from}
 use Rattle.remains.proofs.blocks.Goals as goal
 
-pub loop-done-init : goal.loop-done-init
-loop-done-init g c = (search rules, goes_none _ _ c.start-at.ensures.valid)
+pub loop-before-init : goal.loop-before-init
+loop-before-init g c = goes_none _ _ c.start-at.ensures.valid
 
 pub tell-requires : goal.tell-requires
-tell-requires g c =
-    check_from c.start-at.ensures (goes_as (omega arith) (goes_on c.loop-done.invariant.1 c.block-at.ensures))
+tell-requires g c = check_from c.start-at.ensures (goes_as (omega arith) (goes_on c.loop-before.invariant c.block-at.ensures))
 
-pub loop-done-preserved : goal.loop-done-preserved
-loop-done-preserved g c =
-    (omega (arith, c.loop-done-test.true), goes_as (omega arith) (goes_on c.loop-done.invariant.1 c.block-at.ensures))
+pub loop-before-preserved : goal.loop-before-preserved
+loop-before-preserved g c = goes_as (omega arith) (goes_on c.loop-before.invariant c.block-at.ensures)
