@@ -21,13 +21,13 @@ use Rattle.definitions.specs.History.{draws_of}
 abbrev pub Reason : Type 0
 Reason = Option Drawing
 
-abbrev pub drawn_at : ℕ → ℕ → Reason
-drawn_at target sum = Some (record { target = target; sum = sum })
+abbrev pub drawn_reason : ℕ → ℕ → Reason
+drawn_reason target sum = Some (record { target = target; sum = sum })
 
 -- a turn has no draw or one
 unfoldable pub reason_of : List Sample → Reason
 reason_of [] = None
-reason_of (s ∷ more) = drawn_at s.target s.sum
+reason_of (s ∷ more) = drawn_reason s.target s.sum
 
 -- "the outcome, its fields and, if there was a draw, target and rate sum"; of what is no slot, its number
 unfoldable pub note_of : Answer → Reason → Note

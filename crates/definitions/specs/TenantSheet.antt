@@ -12,7 +12,7 @@ use Rattle.definitions.specs.Tick.{rule1, rule2, rule3, rule_of, contender_rate,
 use Rattle.definitions.specs.History.{History, start, ◌then◌, Place, calls, scheduler, after, trace_of}
 use Rattle.definitions.specs.Sameness.{is_tick, kept}
 use Rattle.definitions.specs.Limits.{StateLimits}
-use Rattle.definitions.specs.Notes.{drawn_at, operator_note, tenant_note}
+use Rattle.definitions.specs.Notes.{drawn_reason, operator_note, tenant_note}
 
 -- what a sheet tells of each tick of a history, latest first
 unfoldable pub notes_of : (Core → Note) → History → List Note
@@ -39,11 +39,11 @@ pub record OperatorTold (s : State) : Type 0 where
   -- by discipline 1, and among the private, the target and the sum are those of the draw
   pub drawn : rule_of s ≡ rule1 → s.discipline ≢ first_come
       → let d = (draw s.side.generator (contender_rate s)).sample in
-      (operator_note (running s) ≡ Told (outcome_by rule1 (turn s).id s) (drawn_at d.target d.sum))
+      (operator_note (running s) ≡ Told (outcome_by rule1 (turn s).id s) (drawn_reason d.target d.sum))
       × (d.sum ≡ sum_below ids (contender_rate s))
   pub privately : rule_of s ≡ rule2
       → let d = (draw s.side.generator (private_rate s.clients)).sample in
-      (operator_note (running s) ≡ Told (outcome_by rule2 (turn s).id s) (drawn_at d.target d.sum))
+      (operator_note (running s) ≡ Told (outcome_by rule2 (turn s).id s) (drawn_reason d.target d.sum))
       × (d.sum ≡ sum_below ids (private_rate s.clients))
   pub nobody : rule_of s ≡ rule3 → operator_note (running s) ≡ Told Nobody None
 

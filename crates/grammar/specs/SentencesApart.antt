@@ -7,7 +7,7 @@ use Rattle.definitions.specs.declared.Outcome.{Outcome}
 use Rattle.definitions.specs.declared.Outcome.TheVariants.{Real, Dummy, Idle, None as Nobody}
 use Rattle.definitions.specs.declared.Note.{Note}
 use Rattle.definitions.specs.declared.Note.TheVariants.{Refusal, Told, ToIndifferent, ToAnother}
-use Rattle.definitions.specs.Notes.{Reason, drawn_at}
+use Rattle.definitions.specs.Notes.{Reason, drawn_reason}
 use Rattle.grammar.specs.Bytes.{bytes}
 use Rattle.grammar.specs.Templates.{matched, Phrase}
 use Rattle.grammar.specs.Grammar.{nth}
@@ -23,7 +23,7 @@ outcome_phrases count outcome =
     record { template = bytes (outcome_words (outcome [])) ++ bytes (undrawn_words (outcome [])); makes = λ n. Told (outcome n) None }
     ∷ record {
       template = bytes (outcome_words (outcome [])) ++ bytes drawn_words;
-      makes = λ n. Told (outcome n) (drawn_at (nth n count) (nth n (suc count)));
+      makes = λ n. Told (outcome n) (drawn_reason (nth n count) (nth n (suc count)));
     }
     ∷ []
 

@@ -9,7 +9,7 @@ use Rattle.definitions.specs.Sample.{Sample}
 use Rattle.definitions.specs.State.{State, unopened, running, updated}
 use Rattle.definitions.specs.Tick.{turn, side_after, slotted, on_tick}
 use Rattle.definitions.specs.Core.{step}
-use Rattle.definitions.specs.Notes.{drawn_at, reason_of}
+use Rattle.definitions.specs.Notes.{drawn_reason, reason_of}
 use Rattle.definitions.proofs.Limits.Turns.{Counted, turn-counted}
 use Rattle.draw.specs.Samples.{sum_of}
 use Rattle.notes.specs.ReasonLeft.{reason_left, ReasonIsLeft}
@@ -20,7 +20,7 @@ left_by : (s : State) (draws : List Sample) → Counted draws s.side.generator
 unfolding reason_left reason_of
 left_by s [] none = refl
 left_by s (d ∷ draws) counted =
-    rw (ne_eqb d.sum 0 (λ e. omega (arith, counted.0, e))) (ap (λ (target : ℕ). drawn_at target d.sum) (sym counted.1))
+    rw (ne_eqb d.sum 0 (λ e. omega (arith, counted.0, e))) (ap (λ (target : ℕ). drawn_reason target d.sum) (sym counted.1))
 
 pub reason_left_lem : ReasonIsLeft
 unfolding ReasonIsLeft step on_tick

@@ -7,13 +7,13 @@ use Rattle.definitions.specs.Event.{Tick}
 use Rattle.definitions.specs.Core.{step}
 use Rattle.definitions.specs.History.{draws_of}
 use Rattle.definitions.specs.Limits.{CoreLimits}
-use Rattle.definitions.specs.Notes.{Reason, drawn_at, reason_of}
+use Rattle.definitions.specs.Notes.{Reason, drawn_reason, reason_of}
 use Rattle.draw.specs.Samples.{sum_of}
 
 -- a sum of 0 is that of no draw
 unfoldable pub reason_left : ℕ → Core → Reason
 reason_left sum unopened = None
-reason_left sum (running s) = cond (eqb sum 0) None (drawn_at (s.side.generator % sum) sum)
+reason_left sum (running s) = cond (eqb sum 0) None (drawn_reason (s.side.generator % sum) sum)
 
 -- On a core within the limits, as every core is that valid tables mean, it is the reason by which the slot of a tick went.
 unfoldable pub ReasonIsLeft : Type 0
