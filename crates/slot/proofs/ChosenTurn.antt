@@ -37,7 +37,8 @@ use Rattle.tables.specs.Invariant.{Shape, SoundCore}
 use Rattle.tables.proofs.MarkedKinds.{kind_indifferent, kind_private}
 use Rattle.tables.proofs.Touch.{waits_here, client_own, stock_own}
 use Rattle.slot.specs.declared.Choice.{Choice}
-use Rattle.slot.specs.Turns.{number_of, Chosen, DrawnAmong, HeldByBoth}
+use Rattle.slot.specs.declared.Rule.TheVariants.{IndifferentFirst, PrivateDraw, Nobody}
+use Rattle.slot.specs.Turns.{name_of, Chosen, DrawnAmong, HeldByBoth}
 use Rattle.slot.proofs.RefillMarked.{rate_first}
 
 -- a queue is empty exactly where its count is 0
@@ -122,7 +123,7 @@ module _ (c : Control) (t : Tables) (core : SoundCore c t) where
 
   -- a draw of the code is the definitions' draw that its weights stand for, and takes a step
   drawn_chosen : (rule : Rule) (word : ℕ) (r : Choice)
-      → DrawnAmong (number_of rule) word c.generator.value t.terms r
+      → DrawnAmong (name_of rule) word c.generator.value t.terms r
       → (weight : ℕ → ℕ)
       → draw c.generator.value (weight_at word t.terms) ≡ draw c.generator.value weight
       → Chosen r (by_draw rule (draw c.generator.value weight))
@@ -148,7 +149,7 @@ module _ (c : Control) (t : Tables) (core : SoundCore c t) where
       turn_first = rw (sym some_contend ∙ any)
 
       pub chosen_contender : c.discipline ≢ 0
-          → (r : Choice) → DrawnAmong 1 word c.generator.value t.terms r → Chosen r (turn s)
+          → (r : Choice) → DrawnAmong IndifferentFirst word c.generator.value t.terms r → Chosen r (turn s)
       unfolding first_turn state_of side_of first_come contender_rate
       chosen_contender drawn r d =
           rw (turn_first, ne_eqb c.discipline 0 drawn)
@@ -170,7 +171,7 @@ module _ (c : Control) (t : Tables) (core : SoundCore c t) where
           absurd (omega (arith, whole found.0, contender_ordered found.0 found.2))
 
       pub chosen_earliest : c.discipline ≡ 0 → (front : ℕ) → front ≡ front_of core.shape.order
-          → (r : Choice) → r.rule ≡ 1 → r.id ≡ front / places → Undrawn c.generator r.sample → Chosen r (turn s)
+          → (r : Choice) → r.rule ≡ IndifferentFirst → r.id ≡ front / places → Undrawn c.generator r.sample → Chosen r (turn s)
       unfolding first_turn state_of side_of first_come owner
       chosen_earliest first front e r rule id none =
           rw (turn_first, eq-eqb c.discipline 0 first)
@@ -192,7 +193,7 @@ module _ (c : Control) (t : Tables) (core : SoundCore c t) where
       some_private = any_agrees c.private (λ id. is_private (clients id).kind) private_marks
 
       pub chosen_private : any_below ids (marked c.private) ≡ true
-          → (r : Choice) → DrawnAmong 2 c.private c.generator.value t.terms r → Chosen r (turn s)
+          → (r : Choice) → DrawnAmong PrivateDraw c.private c.generator.value t.terms r → Chosen r (turn s)
       unfolding turn rule_of turn_by state_of side_of private_rate
       chosen_private any r d =
           rw (sym some_contend ∙ none, sym some_private ∙ any)
@@ -200,7 +201,7 @@ module _ (c : Control) (t : Tables) (core : SoundCore c t) where
           (draw_agrees c.private (λ id. is_private (clients id).kind) private_marks c.generator.value))
 
       pub chosen_nobody : any_below ids (marked c.private) ≡ false
-          → (r : Choice) → r.rule ≡ 3 → r.id ≡ 0 → Undrawn c.generator r.sample → Chosen r (turn s)
+          → (r : Choice) → r.rule ≡ Nobody → r.id ≡ 0 → Undrawn c.generator r.sample → Chosen r (turn s)
       unfolding turn rule_of turn_by state_of side_of
       chosen_nobody any r rule id still =
           rw (sym some_contend ∙ none, sym some_private ∙ any)

@@ -3,7 +3,6 @@ use Prim.Native.Nat.{ℕ, ◌<◌}
 use mathlib.Core.Path.{◌≡◌, refl, sym, ap, subst, ◌∙◌}
 use mathlib.Core.Logic.{◌≢◌}
 use mathlib.Core.Bool.{true, false, cond}
-use native.Mathlib.Omega.{arith}
 use borrow.Author.Tests.{eq-eqb}
 use Rattle.definitions.specs.declared.Outcome.TheVariants.{None}
 use Rattle.definitions.specs.Sizes.{ids}
@@ -26,8 +25,9 @@ use Rattle.tables.specs.Invariant.{Shape}
 use Rattle.tables.proofs.MarkedKinds.{kind_indifferent}
 use Rattle.tables.proofs.Touch.{client_own, stock_own}
 use Rattle.slot.specs.declared.Choice.{Choice}
+use Rattle.slot.specs.declared.Rule.TheVariants.{IndifferentFirst, PrivateDraw, Nobody}
 use Rattle.slot.specs.declared.Sent.{Sent}
-use Rattle.slot.specs.Turns.{number_of}
+use Rattle.slot.specs.Turns.{name_of}
 use Rattle.slot.specs.Sends.{Sender, state_after, Spent}
 use Rattle.slot.specs.Slots.{unfilled, Due, Done}
 use Rattle.slot.proofs.ChosenTurn.{queue_empty}
@@ -125,13 +125,13 @@ module _ (c : Control) (t : Tables) (choice : Choice) (due : Due c t choice) whe
 
   -- ---- somebody's slot
 
-  pub slot_sender : choice.rule ≢ 3 → Sender d t id
+  pub slot_sender : choice.rule ≢ Nobody → Sender d t id
   slot_sender some = go (turn s).rule refl
     where
       go : (r : Rule) → (turn s).rule ≡ r → Sender d t id
       go rule1 e = sender_of (first_below e) (λ m. first_waits e)
       go rule2 e = sender_of (second_below e) (λ m. true-false m (second_unmarked e))
-      go rule3 e = absurd (some (due.chosen.rule ∙ ap number_of e))
+      go rule3 e = absurd (some (due.chosen.rule ∙ ap name_of e))
 
   -- the parts of the definitions' slot, by its rule
   record Parts (rule : Rule) (j : ℕ) : Type 0 where
@@ -139,16 +139,16 @@ module _ (c : Control) (t : Tables) (choice : Choice) (due : Due c t choice) whe
     pub stocks : put (stocks_of t) id (spent (stocks_of t id)) ≡ stocks_after rule j (stocks_of t)
     pub order : cond (marked c.indifferent id) (without_first id (order_of t)) (order_of t) ≡ order_after rule j (order_of t)
 
-  parts : choice.rule ≢ 3 → Parts (turn s).rule (turn s).id
+  parts : choice.rule ≢ Nobody → Parts (turn s).rule (turn s).id
   unfolding outcome_by stocks_after order_after state_of side_of
   parts some = subst (Parts (turn s).rule) due.chosen.id (go (turn s).rule refl)
     where
       go : (r : Rule) → (turn s).rule ≡ r → Parts r id
       go rule1 e = record { outcome = refl; stocks = refl; order = rw (first_marked e) }
       go rule2 e = record { outcome = refl; stocks = refl; order = rw (second_unmarked e) }
-      go rule3 e = absurd (some (due.chosen.rule ∙ ap number_of e))
+      go rule3 e = absurd (some (due.chosen.rule ∙ ap name_of e))
 
-  pub slot_done : choice.rule ≢ 3 → (r : Sent) (u : Tables) → Spent d t id r u → Done c t r u
+  pub slot_done : choice.rule ≢ Nobody → (r : Sent) (u : Tables) → Spent d t id r u → Done c t r u
   unfolding state_after state_of side_of updated side_after unfilled kind_at clients_of client_at
   slot_done some r u h = record {
     outcome = h.outcome ∙ (parts some).outcome;
@@ -168,7 +168,7 @@ module _ (c : Control) (t : Tables) (choice : Choice) (due : Due c t choice) whe
 
   -- ---- nobody's slot
 
-  pub nobody_done : choice.rule ≡ 3 → Done c t (record { control = d; outcome = None }) t
+  pub nobody_done : choice.rule ≡ Nobody → Done c t (record { control = d; outcome = None }) t
   unfolding state_of side_of updated side_after unfilled kind_at clients_of client_at outcome_by stocks_after order_after
   nobody_done e = record {
     outcome = sym (ap (λ (x : Rule). outcome_by x (turn s).id s) third);
@@ -188,8 +188,8 @@ module _ (c : Control) (t : Tables) (choice : Choice) (due : Due c t choice) whe
   }
     where
       go : (r : Rule) → (turn s).rule ≡ r → (turn s).rule ≡ rule3
-      go rule1 q = absurd (omega (arith, due.chosen.rule ∙ ap number_of q))
-      go rule2 q = absurd (omega (arith, due.chosen.rule ∙ ap number_of q))
+      go rule1 q = let no : IndifferentFirst ≡ Nobody = sym (due.chosen.rule ∙ ap name_of q) ∙ e in cc
+      go rule2 q = let no : PrivateDraw ≡ Nobody = sym (due.chosen.rule ∙ ap name_of q) ∙ e in cc
       go rule3 q = q
 
       third : (turn s).rule ≡ rule3

@@ -1,4 +1,4 @@
--- Whose slot it is, as the code says it: the rule by its number in the paper.
+-- Whose slot it is, as the code says it.
 -- "A slot goes by the first of the tick's rules 1 to 3 that applies" (paper 01).
 use Rattle.std.specs.Prelude.{ℕ, ◌+◌, ◌≡◌, List}
 use Rattle.definitions.specs.Sizes.{ids}
@@ -10,21 +10,24 @@ use Rattle.tables.specs.declared.Control.{Control}
 use Rattle.tables.specs.Tables.{tables}
 use Rattle.tables.specs.Invariant.{SoundCore}
 use Rattle.slot.specs.declared.Choice.{Choice}
+use Rattle.slot.specs.declared.Rule.{Rule as Named}
+use Rattle.slot.specs.declared.Rule.TheVariants.{IndifferentFirst, PrivateDraw, Nobody}
 
-abbrev pub number_of : Rule → ℕ
-number_of rule1 = 1
-number_of rule2 = 2
-number_of rule3 = 3
+-- how the code names the paper's rules
+abbrev pub name_of : Rule → Named
+name_of rule1 = IndifferentFirst
+name_of rule2 = PrivateDraw
+name_of rule3 = Nobody
 
 -- a choice of the code is a turn of the definitions
 pub record Chosen (r : Choice) (t : Turn) : Type 0 where
-  pub rule : r.rule ≡ number_of t.rule
+  pub rule : r.rule ≡ name_of t.rule
   pub id : r.id ≡ t.id
   pub draws : StandsFor r.sample t.draws
   pub generator : r.sample.generator.value ≡ t.generator
 
 -- a choice by a draw among the marked ids
-pub record DrawnAmong (by word value : ℕ) (terms : List ℕ) (r : Choice) : Type 0 where
+pub record DrawnAmong (by : Named) (word value : ℕ) (terms : List ℕ) (r : Choice) : Type 0 where
   pub rule : r.rule ≡ by
   pub id : r.id ≡ (draw value (weight_at word terms)).id
   pub sample : SameSample r.sample (draw value (weight_at word terms)).sample

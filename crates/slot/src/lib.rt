@@ -36,17 +36,18 @@ const FIRST_BURST: usize = BURST as usize;
 
 const FIRST_LEVEL: usize = LEVEL as usize;
 
-// The rules of the paper by which a slot goes, by their numbers.
-const INDIFFERENT_FIRST: u32 = 1;
-
-const PRIVATE_DRAW: u32 = 2;
-
-const NOBODY: u32 = 3;
+// The rules of the paper by which a slot goes: 1, 2 and 3.
+#[derive(Clone, Copy)]
+enum Rule {
+    IndifferentFirst,
+    PrivateDraw,
+    Nobody,
+}
 
 // Whose slot it is: by which of the paper's rules, whose id, and what was drawn, with the generator after the pick.
 #[derive(Clone, Copy)]
 struct Choice {
-    rule: u32,
+    rule: Rule,
     id: u32,
     sample: Sample,
 }
@@ -68,7 +69,7 @@ fn private_total(control: Control, terms: &[u32; TERMS]) -> u64
 
 // A draw among the marked ids, by their rates, whose sum is the total.
 fn draw_among(
-    rule: u32,
+    rule: Rule,
     word: u64,
     total: u64,
     terms: &[u32; TERMS],
@@ -94,20 +95,20 @@ fn turn(control: Control, terms: &[u32; TERMS], links: &[u32; LINKS]) -> Choice
     if marks::any(contenders) {
         if control.discipline != FIRST_COME {
             let total = draw::total(contenders, terms);
-            return draw_among(INDIFFERENT_FIRST, contenders, total, terms, generator);
+            return draw_among(Rule::IndifferentFirst, contenders, total, terms, generator);
         }
         return Choice {
-            rule: INDIFFERENT_FIRST,
+            rule: Rule::IndifferentFirst,
             id: order::front(links) / PLACES,
             sample: draw::undrawn(generator),
         };
     }
     if marks::any(control.private) {
         let total = private_total(control, terms);
-        return draw_among(PRIVATE_DRAW, control.private, total, terms, generator);
+        return draw_among(Rule::PrivateDraw, control.private, total, terms, generator);
     }
     Choice {
-        rule: NOBODY,
+        rule: Rule::Nobody,
         id: 0,
         sample: draw::undrawn(generator),
     }
@@ -254,12 +255,14 @@ fn spend(
 {
     let sample = choice.sample;
     let after = tables::with_generator(control, sample.generator);
-    if choice.rule != NOBODY {
-        return send(after, stocks, handles, lengths, links, choice.id);
-    }
-    Sent {
-        control: after,
-        outcome: Outcome::None,
+    match choice.rule {
+        Rule::IndifferentFirst | Rule::PrivateDraw => {
+            send(after, stocks, handles, lengths, links, choice.id)
+        }
+        Rule::Nobody => Sent {
+            control: after,
+            outcome: Outcome::None,
+        },
     }
 }
 
