@@ -12,7 +12,7 @@ ghost use Rattle.maxmin.specs.Shared.{Shared};
 
 use definitions::{Answer, IDS, SHARES};
 
-// The number of the one check.
+// The number of the one check, and no Refusal: must-fail/refused_with_21 gives another number, which no Refusal has.
 const UNFAIR: u32 = 22;
 
 #[tactic(auto, unfolding(definitions::specs::Checks::within, definitions::specs::Sizes::shares))]
@@ -108,7 +108,8 @@ fn put_rates(level: u32, left: u32, demands: &[u32], rates: &mut [u32])
 }
 
 // Gives each demand its rate, in the order of the list, at the start of the caller's room. What no list of demands is, or has no
-// room for its rates, is refused with the number of the one check, and the room stays as it was.
+// room for its rates, is refused with the number of the one check, and the room stays as it was. Ids and demands are two lists, since
+// `Shared` of specs/ speaks of two that may not be equally long.
 pub fn rates(threshold: u32, listed: &[u32], demands: &[u32], rates: &mut [u32]) -> Answer
     ensures { Shared threshold listed.now demands.now rates.old result rates.new }
 {

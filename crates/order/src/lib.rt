@@ -1,5 +1,6 @@
 // The order in which the waiting packets of indifferent clients were accepted: a circular doubly linked list over all places
 // with one sentinel, in one table that is lent. Every operation costs the same however many packets wait, and writes no packet.
+// The links are numbers of places and no boxes: there is no heap, and a packet in the middle goes out at once.
 #![tactic(auto)]
 
 ghost use Rattle.std.specs.Prelude.{◌≡◌, List, [], ◌∷◌, ◌++◌, ℕ, ◌≤◌, ◌<◌};

@@ -17,7 +17,7 @@ use generator::Generator;
 use order::LINKS;
 
 // What of the core is no table, and goes by value. Its fields stand by falling size, so that no padding between two of them is copied
-// along.
+// along. In one struct with the tables, lent by `&mut`, it goes through memory: then a call takes 9 to 10 instructions more.
 #[derive(Clone, Copy)]
 pub struct Control {
     // a mark for each id that is indifferent, that is private, and that has packets waiting
@@ -29,6 +29,7 @@ pub struct Control {
     pub discipline: u32,
     // the rates of all active clients together
     pub rates: u32,
+    // a flag and no Option around the rest: `core_of` and `Valid` of specs/ read it, of any control
     pub opened: bool,
 }
 
@@ -39,7 +40,8 @@ pub struct Answered {
     pub answer: Answer,
 }
 
-// What a client has once, its terms: rate, burst and level of each id, one column after the other.
+// What a client has once, its terms: rate, burst and level of each id, one column after the other. They are columns of numbers and no structs of
+// clients, since the definitions' laws and the refill, which takes several ids at a time, go by column.
 pub const TERMS: usize = 3 * IDS as usize;
 
 pub const RATE: u32 = 0;
@@ -58,10 +60,10 @@ pub const COUNT: u32 = IDS;
 
 pub const POOL: u32 = 2 * IDS;
 
-// The places of the waiting packets.
+// The places of the waiting packets: "an array .. of handles and one of lengths" (paper 01), and so two arrays and no array of packets.
 pub const STORE: usize = (IDS * PLACES) as usize;
 
-// The tables of the core.
+// The tables of the core, of fixed size, since firmware has no heap: they are lent by `&mut`, and no call copies one.
 #[derive(Drop)]
 pub struct Tables {
     pub terms: [u32; TERMS],
