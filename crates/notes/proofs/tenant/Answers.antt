@@ -1,10 +1,8 @@
 -- `notes::tenant` meets its contract: each return is told by the test that led to it. Assumes nothing.
-use Rattle.std.proofs.Common.{arith, ◌≡◌, ◌≢◌, ℕ, ◌<◌, false, sym}
+use Rattle.std.proofs.Common.{arith, ◌≡◌, ◌≢◌, ℕ, sym}
 use mathlib.Core.Path.{refl, ◌∙◌}
 use Rattle.definitions.specs.Sizes.{ids}
-use Rattle.definitions.specs.Notes.{holder}
 use Rattle.definitions.proofs.Laws.Refused.{number_of_some}
-use Rattle.marks.specs.Marks.{marked}
 use Rattle.notes.proofs.TenantSlot.{told-refused, told_own, told-nobody, told_indifferent, told_another, told_neither}
 use Rattle.notes.proofs.tenant.Goals as goal
 
