@@ -1,6 +1,6 @@
 -- `settings::check_change` meets its contract: what is asked of every active client comes first, and then the terms, held
 -- against what the others have. Assumes nothing.
-use Rattle.std.proofs.Common.{arith, ◌≡◌, ℕ, sym}
+use Rattle.std.proofs.Common.{arith, ℕ, sym}
 use mathlib.Core.Path.{refl, ap, ◌∙◌}
 use Rattle.definitions.specs.Sizes.{ids}
 use Rattle.definitions.specs.Checks.{term_checks, change_checks}

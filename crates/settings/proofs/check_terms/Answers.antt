@@ -1,6 +1,6 @@
 -- `settings::check_terms` meets its contract: at each return the tests that led there say which check is the first to fail.
 -- Assumes nothing.
-use Rattle.std.proofs.Common.{arith, ◌≡◌, ℕ, true, ◌+◌, ◌≤◌, ◌<◌, sym}
+use Rattle.std.proofs.Common.{arith, ℕ, ◌+◌, ◌≤◌, ◌<◌, sym}
 use mathlib.Core.Path.{ap, ◌∙◌}
 use borrow.Author.Tests.{le-leb, lt-leb}
 use Rattle.definitions.specs.Sizes.{shares}

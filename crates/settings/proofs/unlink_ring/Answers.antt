@@ -1,8 +1,8 @@
 -- `settings::unlink_ring` meets its contract: turn by turn the id's next place leaves the order. Assumes nothing.
-use Rattle.std.proofs.Common.{rules, arith, ◌≡◌, ℕ, ◌+◌, ◌-◌}
+use Rattle.std.proofs.Common.{rules, arith, ◌≡◌, ◌+◌, ◌-◌}
 use Prim.Native.Nat.{suc}
 use Rattle.definitions.specs.Sizes.{ids, places}
-use Rattle.settings.proofs.Withdrawing.{withdrawing_start, withdrawing_step, withdrawing_done}
+use Rattle.settings.proofs.Withdrawing.{withdrawing_step, withdrawing_done}
 use Rattle.settings.proofs.unlink_ring.Goals as goal
 
 pub overflow_mul-id : goal.overflow_mul-id
