@@ -25,7 +25,7 @@ pub struct Sample {
     pub steps: u32,
 }
 
-// No draw: the generator is not stepped.
+// No draw: the generator is not stepped. It is a sample and no `None`, as `StandsFor`, which `slot::tick` promises, is of one.
 pub fn undrawn(generator: Generator) -> Sample
     ensures { Undrawn generator result }
 {
@@ -75,6 +75,7 @@ pub fn sample_below(total: u64, generator: Generator) -> Sample
     ensures { SameSample result (sample total generator.value) }
 {
     let mut next = generator.step();
+    // The steps are told; a `for` over the throws would give its answer at two places.
     let mut steps: u32 = 1;
     while is_thrown(next.value, total, steps) {
         next = next.step();

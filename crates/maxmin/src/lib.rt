@@ -100,6 +100,7 @@ fn put_rates(level: u32, left: u32, demands: &[u32], rates: &mut [u32])
     ensures { rates.new ≡ sets rates.old 0 (rates_at level left demands.now) }
 {
     let mut rest = left;
+    // By index into the room: over a `zip` with `iter_mut` an invariant has no name for what was written.
     for (i, &demand) in demands.iter().enumerate() {
         let more = extra(level, rest, demand);
         rates[i] = level.min(demand) + more;
