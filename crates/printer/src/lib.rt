@@ -1,5 +1,5 @@
 // Prints answers (paper 01, "Script and printout"), the sentences of a sheet, the figure of a forecast, fair rates and counts: each as a
-// line of text, into bytes that are lent, from a place on.
+// line of text, into bytes that are lent, from a place on. The project lends fixed memory, so a place stands beside the bytes, and no String grows.
 #![tactic(auto)]
 
 ghost use Rattle.std.specs.Prelude.{◌+◌, ◌/◌, ◌%◌, ◌≤◌, ◌<◌, ◌≡◌, ◌&&◌, [], ◌∷◌, ◌++◌, leb, ltb, length};
@@ -32,19 +32,20 @@ pub fn has_room(size: usize, at: usize) -> bool
     size >= LINE_ROOM && at <= size - LINE_ROOM
 }
 
-// Writes a text. One that is fixed where it is called is copied by words, since the compiler knows its length.
+// Writes a text. One that is fixed where it is called is copied by words, since the compiler knows its length; by `copy_from_slice` a script of
+// line feeds takes 1.19 of the instructions.
 fn put(out: &mut [u8], at: usize, text: &[u8]) -> usize
     requires { at + length text.now ≤ length out.old }
     ensures { Appended text.now out.old at out.new result }
 {
-    // By `copy_from_slice` a script of line feeds takes 1.19 of the instructions.
     for i in 0..text.len() {
         out[at + i] = text[i];
     }
     at + text.len()
 }
 
-// Writes the last two digits of a number.
+// Writes the last two digits of a number. A number's digits are written here, since of bytes that std's `write!` fills it promises how many are
+// left, and not which are written: no line's contract follows.
 fn put_two(out: &mut [u8], at: usize, n: u64) -> usize
     requires { at + 2 ≤ length out.old }
     ensures { Appended ((48 + n / 10 % 10) ∷ (48 + n % 10) ∷ []) out.old at out.new result }

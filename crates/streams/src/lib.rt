@@ -30,7 +30,8 @@ fn read_some(input: &mut impl Read, room: &mut [u8]) -> Result<usize>
     input.read(room)
 }
 
-// Reads until the room is full, the input ends or a read fails.
+// Reads until the room is full, the input ends or a read fails. Of std's own loops `read_to_end` asks for heap, which the project has not, and
+// `read_exact` does not count what it read of a shorter input.
 pub fn read_text(input: &mut impl Read, room: &mut [u8]) -> Result<usize>
     ensures { Within result room.new }
 {
