@@ -1,79 +1,59 @@
--- The laws of digits that the parser's loop goes by: what one digit more does to a number, and where the digits end.
--- They hold because `digit_of` is below 10 just where the first byte is a digit.
-use Prim.Native.Nat.{ℕ, ◌+◌, ◌-◌, ◌≤◌, ◌<◌}
-use mathlib.Core.Path.{◌≡◌, refl}
+-- The laws of digits that the parser's loop goes by: what a digit at the front of some bytes does to the digits there and to what
+-- stands behind them. Assumes nothing.
+use Prim.Native.Nat.{ℕ, ◌+◌, ◌≤◌, ◌<◌}
+use mathlib.Core.Path.{◌≡◌, refl, ap, ◌∙◌}
 use mathlib.Core.Bool.{Bool, true, false}
 use mathlib.Core.List.{List, [], ◌∷◌}
+use mathlib.Core.Logic.{◌≢◌}
 use native.Mathlib.Omega.{arith}
-use borrow.Author.Tests.{leb-true, eqb-true, eqb-false, eq-eqb, ne_eqb}
-use lib.Dec.{leb, eqb, eqb-suc-zero, eqb-suc-suc}
-use lib.ListN.{length, drop}
+use borrow.Author.Tests.{le-leb, leb-true, eqb-true, eqb-false}
+use lib.Dec.{leb, eqb}
+use lib.ListN.{length}
 use Rattle.definitions.specs.Checks.{within}
-use Rattle.grammar.specs.Numerals.{is_digit, leading, behind, is_numeral}
-use Rattle.parser.specs.Numbers.{byte_of, digit_of, spelled}
+use Rattle.grammar.specs.Numerals.{is_digit, leading, behind}
 
--- a byte is a digit or another
-data Kind (b : ℕ) : Type 0 where
-  digit : is_digit b ≡ true → 48 ≤ b → b ≤ 57 → Kind b
-  other : is_digit b ≡ false → Kind b
+-- no byte is there, or one that is no digit
+pub no_byte : (l : List ℕ) → length l ≡ 0 → leading l ≡ []
+unfolding leading
+no_byte [] h = refl
+no_byte (b ∷ bs) h = absurd (omega arith)
 
-kind : (b : ℕ) → Kind b
+pub other_byte : {l : List ℕ} {b : ℕ} {bs : List ℕ} → l ≡ b ∷ bs → (48 ≤ b → b ≤ 57 → ⊥) → leading l ≡ []
+unfolding leading is_digit within
+other_byte {l} {b} {bs} e other = ap leading e ∙ go (leb 48 b) (leb b 57) refl refl
+  where
+    go : (s t : Bool) → leb 48 b ≡ s → leb b 57 ≡ t → leading (b ∷ bs) ≡ []
+    go true true p q = absurd (other (leb-true 48 b p) (leb-true b 57 q))
+    go true false p q = rw (p, q)
+    go false t p q = rw p
+
+digit_there : (d : ℕ) → d < 10 → is_digit (48 + d) ≡ true
 unfolding is_digit within
-kind b = go (leb 48 b) (leb b 57) refl refl
+digit_there d h = rw (le-leb 48 (48 + d) (omega arith), le-leb (48 + d) 57 (omega arith))
+
+module _ {l : List ℕ} {d : ℕ} {bs : List ℕ} (e : l ≡ (48 + d) ∷ bs) (h : d < 10) where
+  pub digit_leading : leading l ≡ (48 + d) ∷ leading bs
+  unfolding leading
+  digit_leading = ap leading e ∙ rw (digit_there d h)
+
+  pub digit_behind : behind l ≡ behind bs
+  unfolding behind
+  digit_behind = ap behind e ∙ rw (digit_there d h)
+
+-- where no digit is there, all stands behind
+pub none_behind : (l : List ℕ) → leading l ≡ [] → behind l ≡ l
+unfolding leading behind
+none_behind [] e = refl
+none_behind (b ∷ bs) e = go (is_digit b) refl
   where
-    go : (s t : Bool) → leb 48 b ≡ s → leb b 57 ≡ t → Kind b
-    go true true p q = digit (rw (p, q)) (leb-true 48 b p) (leb-true b 57 q)
-    go true false p q = other (rw (p, q))
-    go false t p q = other (rw p)
+    go : (t : Bool) → is_digit b ≡ t → behind (b ∷ bs) ≡ b ∷ bs
+    go true q = absurd (let f = rw q at e in cc)
+    go false q = rw q
 
--- the bytes end, or another byte stands there
-pub digits_end : (l : List ℕ) → 10 ≤ digit_of l → (leading l ≡ []) × (behind l ≡ l)
-unfolding digit_of byte_of leading behind
-digits_end [] h = (refl, refl)
-digits_end (b ∷ bs) h = go (kind b)
-  where
-    go : Kind b → (leading (b ∷ bs) ≡ []) × (behind (b ∷ bs) ≡ b ∷ bs)
-    go (digit e low high) = absurd (let h' = rw e at h in omega arith)
-    go (other e) = (rw e, rw e)
+-- whether bytes are left
+pub some_left : (l : List ℕ) → eqb (length l) 0 ≡ false → 0 < length l
+some_left l e = let some : length l ≢ 0 = eqb-false (length l) 0 e in omega arith
 
--- a digit stands there
-pub record Starts (l : List ℕ) : Type 0 where
-  pub front : leading l ≡ (48 + digit_of l) ∷ leading (drop 1 l)
-  pub rest : behind l ≡ behind (drop 1 l)
-  pub there : 0 < length l
-
-no_digit : digit_of [] ≡ 10
-unfolding digit_of byte_of is_digit within
-no_digit = refl
-
-pub digits_start : (l : List ℕ) → digit_of l < 10 → Starts l
-unfolding digit_of byte_of leading behind
-digits_start [] h = absurd (let h' = rw no_digit at h in omega arith)
-digits_start (b ∷ bs) h = go (kind b)
-  where
-    go : Kind b → Starts (b ∷ bs)
-    go (digit e low high) =
-        let same : 48 + (b - 48) ≡ b = omega arith in
-        record { front = rw (e, same); rest = rw e; there = omega arith }
-    go (other e) = absurd (let h' = rw e at h in omega arith)
-
-zero_digit : (b : ℕ) → 48 ≤ b → eqb (b - 48) 0 ≡ eqb b 48
-zero_digit b low = go (eqb b 48) refl
-  where
-    go : (t : Bool) → eqb b 48 ≡ t → eqb (b - 48) 0 ≡ t
-    go true p = let q = eqb-true b 48 p in eq-eqb (b - 48) 0 (omega arith)
-    go false p = ne_eqb (b - 48) 0 (λ e. eqb-false b 48 p (omega arith))
-
--- whether digits are a number shows in their count and the first one's value
-pub numeral_spelled : (l : List ℕ) → is_numeral (leading l) ≡ spelled (length (leading l)) (digit_of l)
-unfolding digit_of byte_of leading is_numeral spelled
-numeral_spelled [] = refl
-numeral_spelled (b ∷ bs) = go (kind b)
-  where
-    tail : (ds : List ℕ) → 48 ≤ b → is_numeral (b ∷ ds) ≡ spelled (length (b ∷ ds)) (b - 48)
-    tail [] low = refl
-    tail (d ∷ ds) low = rw (eqb-suc-zero, eqb-suc-suc, eqb-suc-zero, zero_digit b low)
-
-    go : Kind b → is_numeral (leading (b ∷ bs)) ≡ spelled (length (leading (b ∷ bs))) (digit_of (b ∷ bs))
-    go (digit e low high) = rw e (tail (leading bs) low)
-    go (other e) = rw e
+pub none_left : (l : List ℕ) → eqb (length l) 0 ≡ true → l ≡ []
+none_left [] e = refl
+none_left (b ∷ bs) e = absurd (omega (arith, eqb-true (length (b ∷ bs)) 0 e))

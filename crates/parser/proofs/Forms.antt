@@ -6,17 +6,16 @@ use mathlib.Core.Bool.{Bool, true, false, cond, not, ◌&&◌, true≢false}
 use mathlib.Core.List.{List, [], ◌∷◌, ◌++◌}
 use mathlib.Core.Option.{Option, none, some}
 use native.Mathlib.Omega.{arith}
-use borrow.Author.Tests.{leb-true, eqb-false, not-true}
-use lib.Dec.{leb, eqb}
-use lib.ListN.{length, take, drop}
+use borrow.Author.Tests.{leb-true, ltb-false, eqb-false, not-true}
+use lib.Dec.{leb, ltb, eqb}
+use lib.ListN.{length, get_or, take}
 use lib.Seq.{get_or-take}
 use Rattle.definitions.proofs.Laws.Tests.{and_both}
-use Rattle.std.specs.Prelude.{Ok, Err}
+use Rattle.std.specs.Prelude.{Some, Ok, Err, slice_get}
 use Rattle.grammar.specs.declared.Unread.{Unread}
 use Rattle.grammar.specs.declared.Unread.TheVariants.{NoForm, TooLarge}
 use Rattle.grammar.specs.Templates.{is_gap, limits, gaps, numbers_fit, matched}
 use Rattle.grammar.specs.Grammar.{Rule, nth, sized_in, or_else, parsed_by, parsed_by_in}
-use Rattle.parser.specs.Numbers.{byte_of}
 use Rattle.parser.specs.Readings.{Verdict, verdict, Reads}
 use Rattle.parser.proofs.TemplateWalk.{second_misfits}
 
@@ -123,12 +122,24 @@ unlike letter [] = false
 unlike letter (b ∷ []) = false
 unlike letter (b ∷ c ∷ cs) = not (is_gap b) && (not (is_gap c) && not (eqb letter c))
 
+-- what a line's second byte is, where one was read
+pub second_is : (line : List ℕ) {b letter : ℕ} → 1 < length line → b ≡ get_or line 1 0 → b ≡ letter
+    → (c : ℕ) → slice_get line 1 ≡ Some c → letter ≡ c
+second_is [] long here e c q = absurd (omega arith)
+second_is (x ∷ []) long here e c q = absurd (omega arith)
+second_is (x ∷ y ∷ ys) long here e c q = cc
+
+pub second-none : (line : List ℕ) {letter : ℕ} → false ≡ ltb 1 (length line) → (c : ℕ) → slice_get line 1 ≡ Some c → letter ≡ c
+second-none [] short c q = absurd (cc)
+second-none (x ∷ []) short c q = absurd (cc)
+second-none (x ∷ y ∷ ys) short c q = absurd (omega (arith, ltb-false 1 (length (x ∷ y ∷ ys)) (sym short)))
+
 -- the forms that a line with this second byte may have
 unfoldable pub like : ℕ → List Rule → List Rule
 like letter [] = []
 like letter (r ∷ rs) = cond (unlike letter r.template) (like letter rs) (r ∷ like letter rs)
 
-module _ (line : List ℕ) {letter : ℕ} (second : letter ≡ byte_of (drop 1 line)) where
+module _ (line : List ℕ) {letter : ℕ} (second : (c : ℕ) → slice_get line 1 ≡ Some c → letter ≡ c) where
   unlike_misfits : (template : List ℕ) → unlike letter template ≡ true → matched template line ≡ none
   unfolding unlike
   unlike_misfits [] e = absurd (true≢false (sym e))
@@ -137,7 +148,7 @@ module _ (line : List ℕ) {letter : ℕ} (second : letter ≡ byte_of (drop 1 l
       let first = and_both (not (is_gap b)) _ e in
       let rest = and_both (not (is_gap c)) _ first.1 in
       second_misfits b c cs line (not-true _ first.0) (not-true _ rest.0)
-      (λ q. eqb-false letter c (not-true _ rest.1) (second ∙ q))
+      (λ q. eqb-false letter c (not-true _ rest.1) (second c q))
 
   -- only these have to be tried
   pub only_like : (rs : List Rule) → parsed_by rs line ≡ parsed_by (like letter rs) line

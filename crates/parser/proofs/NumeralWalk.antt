@@ -2,117 +2,143 @@
 -- Each digit is taken off the front of the digits that are left and onto the number so far. Assumes nothing.
 use Prim.Native.Nat.{ℕ, ◌+◌, ◌-◌, ◌*◌, ◌≤◌, ◌<◌}
 use mathlib.Core.Path.{◌≡◌, refl, sym, ◌∙◌, ap}
-use mathlib.Core.Bool.{Bool, true, false, true≢false}
+use mathlib.Core.Bool.{Bool, true, false, cond}
 use mathlib.Core.List.{List, [], ◌∷◌}
+use mathlib.Core.Logic.{◌≢◌}
 use native.Mathlib.Omega.{arith}
-use borrow.Author.Tests.{lt-ltb, ltb-false}
-use lib.Dec.{ltb}
-use lib.ListN.{length, drop, length-drop}
-use lib.Seq.{drop-drop}
-use Rattle.grammar.specs.Numerals.{leading, behind, value_from}
-use Rattle.parser.specs.declared.Amount.{Amount}
-use Rattle.parser.specs.Numbers.{digit_of, spelled, largest64, Stands, Grows, Exceeds, Spells}
-use Rattle.parser.proofs.Digits.{Starts, digits_start, digits_end, numeral_spelled}
+use borrow.Author.Tests.{le-leb, lt-leb, leb-true, leb-false, eq-eqb, ne_eqb}
+use lib.Dec.{leb}
+use lib.ListN.{length}
+use Rattle.std.specs.Prelude.{Option, Some, None}
+use Rattle.grammar.specs.Numerals.{leading, behind, is_numeral, value_from}
+use Rattle.parser.specs.declared.Numeral.{Numeral}
+use Rattle.parser.specs.Numbers.{largest64, within_limit, Grows, Holds, Spelled}
+use Rattle.parser.proofs.Digits.{digit_leading, digit_behind, none_behind}
 
--- ---- an amount that stands for a number
+-- ---- a number held to a limit
 
--- a digit more that does not pass 64 bits, and one that does
-module _ {amount : Amount} {n : ℕ} (s : Stands amount n) (digit : ℕ) {value : ℕ} where
-  pub stands_more : value ≡ amount.value * 10 + digit → Stands (record { past = amount.past; value = value }) (n * 10 + digit)
-  stands_more e = record { exact = λ q. e ∙ rw (s.exact q); beyond = λ q. omega (arith, s.beyond q) }
+pub limit_kept : {limit n v : ℕ} → Some v ≡ within_limit limit n → (v ≡ n) × (n ≤ limit)
+limit_kept {limit} {n} {v} e = go (leb n limit) refl e
+  where
+    go : (t : Bool) → leb n limit ≡ t → Some v ≡ cond t (Some n) None → (v ≡ n) × (n ≤ limit)
+    go true q f = (cc, leb-true n limit q)
+    go false q f = absurd (cc)
 
-  pub stands_past : largest64 < amount.value * 10 + digit
-      → Stands (record { past = true; value = value }) (n * 10 + digit)
-  stands_past over = record { exact = λ q. absurd (true≢false q); beyond = λ q. go amount.past refl }
-    where
-      go : (past : Bool) → amount.past ≡ past → largest64 < n * 10 + digit
-      go true e = omega (arith, s.beyond e)
-      go false e = omega (arith, s.exact e)
+pub limit_passed : {limit n : ℕ} → None ≡ within_limit limit n → limit < n
+limit_passed {limit} {n} e = go (leb n limit) refl e
+  where
+    go : (t : Bool) → leb n limit ≡ t → None ≡ cond t (Some n) None → limit < n
+    go true q f = absurd (cc)
+    go false q f = leb-false n limit q
 
--- whether the number is above a limit of 64 bits
-module _ {amount : Amount} {n : ℕ} (s : Stands amount n) (limit : ℕ) where
-  pub exceeds_past : amount.past ≡ true → limit ≤ largest64 → true ≡ ltb limit n
-  exceeds_past e fits = sym (lt-ltb limit n (omega (arith, s.beyond e)))
+pub limit_some : {limit n : ℕ} → n ≤ limit → Some n ≡ within_limit limit n
+limit_some {limit} {n} h = rw (le-leb n limit h)
 
-  pub exceeds_exact : amount.past ≡ false → ltb limit amount.value ≡ ltb limit n
-  exceeds_exact e = rw (s.exact e)
+pub limit_none : {limit n : ℕ} → limit < n → None ≡ within_limit limit n
+limit_none {limit} {n} h = rw (lt-leb n limit h)
+
+-- ---- whether digits are a number
+
+pub none_spelled : (l : List ℕ) → leading l ≡ [] → is_numeral (leading l) ≡ false
+unfolding is_numeral
+none_spelled l e = ap is_numeral e
+
+single : (first : ℕ) (ds : List ℕ) → ds ≡ [] → is_numeral ((48 + first) ∷ ds) ≡ true
+unfolding is_numeral
+single first ds e = rw e
+
+led_by : (first : ℕ) (ds : List ℕ) → first ≢ 0 → is_numeral ((48 + first) ∷ ds) ≡ true
+unfolding is_numeral
+led_by first [] ne = refl
+led_by first (d ∷ ds) ne = rw (ne_eqb (48 + first) 48 (λ e. ne (omega arith)))
+
+led_by-zero : (first : ℕ) (ds : List ℕ) → first ≡ 0 → 0 < length ds → is_numeral ((48 + first) ∷ ds) ≡ false
+unfolding is_numeral
+led_by-zero first [] e h = absurd (omega arith)
+led_by-zero first (d ∷ ds) e h = rw (eq-eqb (48 + first) 48 (omega arith))
 
 -- ---- the walk
 
-pub record Passed (line : List ℕ) (from at : ℕ) (amount : Amount) (digit : ℕ) : Type 0 where
-  pub onward : from ≤ at
-  pub next : digit ≡ digit_of (drop at line)
-  pub count : length (leading (drop from line)) ≡ (at - from) + length (leading (drop at line))
-  pub end : behind (drop at line) ≡ behind (drop from line)
+-- what is left behind the first digit and those that were passed
+pub record Passed (line : List ℕ) (first : ℕ) (others rest : List ℕ) (amount : Option ℕ) : Type 0 where
+  pub front : line ≡ (48 + first) ∷ others
+  pub small : first < 10
+  pub onward : length rest ≤ length others
+  pub still : length others ≤ length rest → rest ≡ others
+  pub several : length rest < length others → 0 < length (leading others)
+  pub end : behind rest ≡ behind line
   -- the number that the digits so far spell, and what all of them do
   pub so_far : ℕ
-  pub stands : Stands amount so_far
-  pub total : value_from so_far (leading (drop at line)) ≡ value_from 0 (leading (drop from line))
+  pub stands : amount ≡ within_limit largest64 so_far
+  pub total : value_from so_far (leading rest) ≡ value_from 0 (leading line)
 
-pub passed_none : (line : List ℕ) (from digit : ℕ) → digit ≡ digit_of (drop from line)
-    → Passed line from from (record { past = false; value = 0 }) digit
-passed_none line from digit e = record {
-  onward = omega arith;
-  next = e;
-  count = omega arith;
-  end = refl;
-  so_far = 0;
-  stands = record { exact = λ p. refl; beyond = λ p. absurd (true≢false (sym p)) };
-  total = refl;
-}
+pub passed_one : {line : List ℕ} {first : ℕ} {others : List ℕ} → line ≡ (48 + first) ∷ others → first < 10
+    → Passed line first others others (Some first)
+unfolding value_from
+passed_one {line} {first} {others} e h =
+    let same : 0 * 10 + ((48 + first) - 48) ≡ first = omega arith in record {
+      front = e;
+      small = h;
+      onward = omega arith;
+      still = λ k. refl;
+      several = λ k. absurd (omega arith);
+      end = sym (digit_behind e h);
+      so_far = first;
+      stands = limit_some (omega arith);
+      total = sym (ap (λ (n : ℕ). value_from n (leading others)) same) ∙ sym (ap (value_from 0) (digit_leading e h));
+    }
 
-module _ {line : List ℕ} {from at : ℕ} {amount : Amount} {digit : ℕ} (p : Passed line from at amount digit) where
-  starts : digit < 10 → Starts (drop at line)
-  starts h = digits_start (drop at line) (rw p.next at h)
-
-  pub passed_there : digit < 10 → at < length line
-  passed_there h = omega (arith, rw length-drop at (starts h).there)
-
-  -- what is left behind the digit that stands there
-  onward_by_one : drop 1 (drop at line) ≡ drop (at + 1) line
-  onward_by_one = drop-drop 1 at line
-
-  pub passed_more : {amount' : Amount} {digit' : ℕ} → digit < 10 → Grows amount digit amount'
-      → digit' ≡ digit_of (drop (at + 1) line) → Passed line from (at + 1) amount' digit'
+module _ {line : List ℕ} {first : ℕ} {others rest : List ℕ} {amount : Option ℕ} (p : Passed line first others rest amount) where
+  pub passed_more : {digit : ℕ} {left : List ℕ} {amount' : Option ℕ} → rest ≡ (48 + digit) ∷ left → digit < 10
+      → Grows amount digit amount' → Passed line first others left amount'
   unfolding value_from
-  passed_more {amount'} {digit'} h grows d =
-      let front : leading (drop at line) ≡ (48 + digit) ∷ leading (drop (at + 1) line) =
-      rw (p.next, ← onward_by_one) (starts h).front in
-      let longer = ap length front in
-      let same : p.so_far * 10 + digit ≡ p.so_far * 10 + ((48 + digit) - 48) = omega arith in
+  passed_more {digit} {left} {amount'} e h grows =
+      let shorter : length rest ≡ length left + 1 = ap length e ∙ omega arith in
+      let lead = digit_leading e h in
+      let same : p.so_far * 10 + ((48 + digit) - 48) ≡ p.so_far * 10 + digit = omega arith in
       record {
+        front = p.front;
+        small = p.small;
         onward = omega (arith, p.onward);
-        next = d;
-        count = omega (arith, p.count, p.onward);
-        end = rw (← onward_by_one) (sym (starts h).rest ∙ p.end);
+        still = λ k. absurd (omega (arith, p.onward));
+        several = λ k. elsewhere (leb (length others) (length rest)) refl lead;
+        end = sym (digit_behind e h) ∙ p.end;
         so_far = p.so_far * 10 + digit;
         stands = grows p.so_far p.stands;
-        total = ap (λ (n : ℕ). value_from n (leading (drop (at + 1) line))) same ∙ (rw front at p.total);
+        total = sym (ap (λ (n : ℕ). value_from n (leading left)) same) ∙ sym (ap (value_from p.so_far) lead) ∙ p.total;
       }
+    where
+      elsewhere : (t : Bool) → leb (length others) (length rest) ≡ t → leading rest ≡ (48 + digit) ∷ leading left
+          → 0 < length (leading others)
+      elsewhere true q lead =
+          let all : leading others ≡ (48 + digit) ∷ leading left = sym (ap leading (p.still (leb-true _ _ q))) ∙ lead in
+          omega (arith, ap length all)
+      elsewhere false q lead = p.several (leb-false _ _ q)
 
-  module _ (h : 10 ≤ digit) where
-    ends : (leading (drop at line) ≡ []) × (behind (drop at line) ≡ drop at line)
-    ends = digits_end (drop at line) (rw p.next at h)
+  -- at the end of the digits
+  module _ (none : leading rest ≡ []) where
+    lead : leading line ≡ (48 + first) ∷ leading others
+    lead = digit_leading p.front p.small
 
-    -- the number so far is the whole
-    whole : p.so_far ≡ value_from 0 (leading (drop from line))
+    pub passed_zero : first ≡ 0 → length rest < length others → is_numeral (leading line) ≡ false
+    passed_zero e h = ap is_numeral lead ∙ led_by-zero first (leading others) e (p.several h)
+
+    whole : p.so_far ≡ value_from 0 (leading line)
     unfolding value_from
-    whole = rw ends.0 at p.total
+    whole = rw none at p.total
 
-    pub passed_all : {limit first : ℕ} {is large : Bool} → limit ≤ largest64 → first ≡ digit_of (drop from line)
-        → is ≡ spelled (at - from) first → Exceeds amount limit large
-        → Spells limit (drop from line) line (record { is = is; large = large; value = amount.value; next = at })
-    passed_all {limit} {first} {is} {large} fits f e exceeds =
-        let count : length (leading (drop from line)) ≡ at - from = p.count ∙ rw ends.0 (omega arith) in
-        let size : large ≡ ltb limit p.so_far = exceeds p.so_far p.stands in
-        record {
-          right = e ∙ rw (f, ← count) (sym (numeral_spelled (drop from line)));
-          size = rw whole at size;
-          amount = λ small. exact amount.past refl (ltb-false limit p.so_far (sym size ∙ small)) ∙ whole;
-          after = sym ends.1 ∙ p.end;
-        }
-      where
-        -- what is not above the limit has not passed 64 bits
-        exact : (past : Bool) → amount.past ≡ past → p.so_far ≤ limit → amount.value ≡ p.so_far
-        exact true e low = absurd (omega (arith, p.stands.beyond e))
-        exact false e low = p.stands.exact e
+    all : is_numeral (leading line) ≡ true → {limit : ℕ} {numeral : Numeral} → limit ≤ largest64 → Holds amount limit numeral.value
+        → numeral.rest.now ≡ rest → Spelled limit line numeral
+    all right {limit} {numeral} fits holds after = record {
+      right = right;
+      amount = holds p.so_far fits p.stands ∙ ap (within_limit limit) whole;
+      after = after ∙ sym (none_behind rest none) ∙ p.end;
+    }
+
+    pub passed_led : first ≢ 0 → {limit : ℕ} {numeral : Numeral} → limit ≤ largest64 → Holds amount limit numeral.value
+        → numeral.rest.now ≡ rest → Spelled limit line numeral
+    passed_led ne = all (ap is_numeral lead ∙ led_by first (leading others) ne)
+
+    pub passed_single : length others ≤ length rest → {limit : ℕ} {numeral : Numeral} → limit ≤ largest64
+        → Holds amount limit numeral.value → numeral.rest.now ≡ rest → Spelled limit line numeral
+    passed_single h = all (ap is_numeral lead ∙ single first (leading others) (sym (ap leading (p.still h)) ∙ none))

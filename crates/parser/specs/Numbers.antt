@@ -1,45 +1,36 @@
 -- "A number has no sign and no leading zero, except 0 itself" (paper 01, "Script and printout").
--- Numbers as the parser finds them: byte by byte, with a mark for what is not there, and with a mark for what has passed 64 bits,
--- so that any number of digits is read and any limit of 64 bits can be told. The grammar's own words for them are `leading`,
--- `is_numeral`, `value_from` and `behind`.
-use Rattle.std.specs.Prelude.{ℕ, ◌+◌, ◌-◌, ◌*◌, ◌<◌, ◌≡◌, Bool, true, false, cond, not, List, [], ◌∷◌, eqb, ltb, drop}
-use Rattle.grammar.specs.Numerals.{is_digit, leading, behind, is_numeral, value_from}
-use Rattle.parser.specs.declared.Amount.{Amount}
+-- Numbers as the parser finds them: digit by digit, and none where 64 bits are passed, so that any number of digits is read and any
+-- limit of 64 bits can be told. The grammar's own words for them are `leading`, `is_numeral`, `value_from` and `behind`.
+use Rattle.std.specs.Prelude.{ℕ, ◌+◌, ◌*◌, ◌≤◌, ◌<◌, ◌≡◌, true, false, cond, List, [], ◌∷◌, leb, Option, Some, None, MatchOption}
+use denote.Ref.{Bor}
+use Rattle.grammar.specs.Numerals.{leading, behind, is_numeral, value_from}
 use Rattle.parser.specs.declared.Numeral.{Numeral}
 
--- the first byte, and 256 where there is none
-unfoldable pub byte_of : List ℕ → ℕ
-byte_of [] = 256
-byte_of (b ∷ bs) = b
-
--- the first digit's value, and 10 where there is none
-unfoldable pub digit_of : List ℕ → ℕ
-digit_of bytes = cond (is_digit (byte_of bytes)) (byte_of bytes - 48) 10
-
--- whether so many digits, of which the first has a value, are a number
-unfoldable pub spelled : ℕ → ℕ → Bool
-spelled count first = cond (eqb count 0) false (cond (eqb count 1) true (not (eqb first 0)))
+-- a digit at the front of some bytes, and what stands behind it
+abbrev pub DigitSplit : List ℕ → Option (ℕ × Bor (List ℕ)) → Type 0
+DigitSplit bytes split = MatchOption split (leading bytes ≡ []) (λ p. (bytes ≡ (48 + p.0) ∷ p.1.now) × (p.0 < 10))
 
 -- the largest number of 64 bits
 abbrev pub largest64 : ℕ
 largest64 = 18446744073709551615
 
--- an amount stands for a number: it has its value, or the mark that it has passed 64 bits
-pub record Stands (amount : Amount) (n : ℕ) : Type 0 where
-  pub exact : amount.past ≡ false → amount.value ≡ n
-  pub beyond : amount.past ≡ true → largest64 < n
+-- a number, where it is not above a limit
+abbrev pub within_limit : ℕ → ℕ → Option ℕ
+within_limit limit n = cond (leb n limit) (Some n) None
 
 -- one digit more, of whatever number the amount stands for
-abbrev pub Grows : Amount → ℕ → Amount → Type 0
-Grows amount digit grown = (n : ℕ) → Stands amount n → Stands grown (n * 10 + digit)
+abbrev pub Grows : Option ℕ → ℕ → Option ℕ → Type 0
+Grows amount digit grown = (n : ℕ) → amount ≡ within_limit largest64 n → grown ≡ within_limit largest64 (n * 10 + digit)
 
--- whether that number is above a limit
-abbrev pub Exceeds : Amount → ℕ → Bool → Type 0
-Exceeds amount limit large = (n : ℕ) → Stands amount n → large ≡ ltb limit n
+-- that number, where it is not above a limit of 64 bits
+abbrev pub Holds : Option ℕ → ℕ → Option ℕ → Type 0
+Holds amount limit kept = (n : ℕ) → limit ≤ largest64 → amount ≡ within_limit largest64 n → kept ≡ within_limit limit n
 
--- a numeral at the front of the rest of a line, held to a limit
-pub record Spells (limit : ℕ) (rest line : List ℕ) (numeral : Numeral) : Type 0 where
-  pub right : numeral.is ≡ is_numeral (leading rest)
-  pub size : numeral.large ≡ ltb limit (value_from 0 (leading rest))
-  pub amount : numeral.large ≡ false → numeral.value ≡ value_from 0 (leading rest)
-  pub after : drop numeral.next line ≡ behind rest
+-- a numeral at the front of some bytes, held to a limit
+pub record Spelled (limit : ℕ) (bytes : List ℕ) (numeral : Numeral) : Type 0 where
+  pub right : is_numeral (leading bytes) ≡ true
+  pub amount : numeral.value ≡ within_limit limit (value_from 0 (leading bytes))
+  pub after : numeral.rest.now ≡ behind bytes
+
+abbrev pub Spells : ℕ → List ℕ → Option Numeral → Type 0
+Spells limit bytes found = MatchOption found (is_numeral (leading bytes) ≡ false) (λ numeral. Spelled limit bytes numeral)

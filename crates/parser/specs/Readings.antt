@@ -1,6 +1,6 @@
 -- What a template finds in a line: what it is refused for, or the numbers in its gaps.
-use Rattle.std.specs.Prelude.{ℕ, ◌≤◌, ◌≡◌, Bool, true, false, cond, List, length, take, Result, Ok, Err, OnOk}
-use Rattle.std.proofs.Math.Option.{Option, none, some}
+use Rattle.std.specs.Prelude.{ℕ, ◌≤◌, ◌≡◌, Bool, true, false, cond, List, length, take, Option, Some, None, Result, Ok, Err, OnOk}
+use Rattle.std.proofs.Math.Option.{Option as Found, none, some}
 use Rattle.definitions.specs.Sizes.{handle_limit}
 use Rattle.grammar.specs.declared.Call.{Call}
 use Rattle.grammar.specs.declared.Unread.{Unread}
@@ -8,13 +8,12 @@ use Rattle.grammar.specs.declared.Unread.TheVariants.{NoForm, TooLarge}
 use Rattle.grammar.specs.Unread.{Line}
 use Rattle.grammar.specs.Templates.{is_gap, limit_in, limits, gaps, numbers_fit, matched}
 use Rattle.grammar.specs.Grammar.{behind_text, terms_forms, parsed_by}
-use Rattle.parser.specs.declared.Gap.{Gap}
 use Rattle.parser.specs.declared.Terms.{Terms}
 use Rattle.parser.specs.Texts.{plain}
 
--- whether a byte of a template is a gap, and its limit
-abbrev pub gap_of : ℕ → Gap
-gap_of byte = record { is = is_gap byte; limit = limit_in handle_limit byte }
+-- the limit of a byte of a template that is a gap
+abbrev pub gap_of : ℕ → Option ℕ
+gap_of byte = cond (is_gap byte) (Some (limit_in handle_limit byte)) None
 
 -- what reading by a template answers: that the line fits, or what it is refused for
 abbrev pub Verdict : Type 0
@@ -22,12 +21,12 @@ Verdict = Result (Unit {0}) Unread
 
 -- Shape is judged before size: "not a form of the grammar" is 16, "right shape, but a number above .." 17. What is found in the
 -- end, behind numbers of which one was too large or none, is held to the limits that are left.
-abbrev pub verdict_from : Bool → List ℕ → Option (List ℕ) → Verdict
+abbrev pub verdict_from : Bool → List ℕ → Found (List ℕ) → Verdict
 verdict_from large limits none = Err NoForm
 verdict_from large limits (some numbers) =
     cond large (Err TooLarge) (cond (numbers_fit limits numbers) (Ok tt) (Err TooLarge))
 
-abbrev pub verdict : List ℕ → Option (List ℕ) → Verdict
+abbrev pub verdict : List ℕ → Found (List ℕ) → Verdict
 verdict template found = verdict_from false (limits template) found
 
 -- how many numbers a line may have

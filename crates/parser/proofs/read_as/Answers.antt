@@ -1,74 +1,81 @@
 -- `parser::read_as` meets its contract: each way that a byte of the template can go has its law in TemplateWalk.antt. Assumes
 -- nothing.
-use Rattle.std.proofs.Common.{ℕ, ◌<◌, ◌≡◌, Bool, List, length, get_or, Fits, w8, arith}
-use Rattle.std.proofs.lemmas.Bool.{not-true, not-false}
-use Rattle.parser.specs.declared.Gap.{Gap}
-use Rattle.parser.specs.Readings.{gap_of}
+use mathlib.Core.Path.{refl, sym, ap, ◌∙◌}
+use native.Mathlib.Omega.{arith}
+use Rattle.std.proofs.Common.{ℕ, ◌∷◌, length}
+use Rattle.parser.proofs.Digits.{some_left, none_left}
 use Rattle.parser.proofs.TemplateWalk.{
-  Walked,
-  Turn,
   walked_none,
   walked_place,
-  walked_gap,
   walked_gap_off,
+  walked_number,
+  walked_over,
   walked_byte,
   walked_byte_off,
-  walked_there,
   walked-behind,
   walked_large,
   walked_all,
 }
 use Rattle.parser.proofs.read_as.Goals as goal
-use Rattle.parser.proofs.read_as.Goals.{then-gap+else-not-number, else-gap+else-byte_at-byte}
+use Rattle.parser.proofs.read_as.Goals.{in-Some+in-Some-read_numeral, in-Some-value, in-None, in_default+in-Some-split_first}
 
--- a turn, from what is known of the byte and of the gap
-turn : {line template numbers : List ℕ} {from count at i byte : ℕ} {large : Bool} {mark : Gap}
-    → Walked line from template large numbers count at i → i < length template → byte ≡ get_or template i 0
-    → Fits w8 (get_or template i 0) → mark ≡ gap_of byte → Turn line from template large numbers count at i byte mark
-turn walked more here small told =
-    record { walked = walked; more = more; here = here; small = omega (arith, here, small); told = told }
+pub loop-byte-init : goal.loop-byte-init
+loop-byte-init c = walked_none _ _ _ c.requires
 
-pub loop-i-init : goal.loop-i-init
-loop-i-init c = walked_none _ _ _ _ c.requires
-
-pub returns-then-not-number : goal.returns-then-not-number
-returns-then-not-number c =
-    let t = turn c.loop-i.invariant c.loop-i-test.true c.wide-byte.ensures (c.type_inv.template _) c.gap_of-gap.ensures in
-    walked_gap_off t c.if-gap.true c.read_numeral-number.ensures (not-true _ c.if-not-number.true)
+pub returns-in_default-read_numeral : goal.returns-in_default-read_numeral
+returns-in_default-read_numeral c =
+    walked_gap_off c.loop-byte.invariant c.loop-byte-test.true refl c.in-Some.ensures
+    (rw c.in_default-read_numeral.is at c.read_numeral.ensures)
 
 -- a gap's number has its place
 pub bounds-numbers-count : goal.bounds-numbers-count
 bounds-numbers-count c =
-    let t = turn c.loop-i.invariant c.loop-i-test.true c.wide-byte.ensures (c.type_inv.template _) c.gap_of-gap.ensures in
-    walked_place t c.if-gap.true
+    let w = c.loop-byte.invariant in
+    omega (arith, walked_place w c.loop-byte-test.true refl c.in-Some.ensures, w.room.sized)
 
-pub returns-then-byte_at-byte : goal.returns-then-byte_at-byte
-returns-then-byte_at-byte c =
-    let t = turn c.loop-i.invariant c.loop-i-test.true c.wide-byte.ensures (c.type_inv.template _) c.gap_of-gap.ensures in
-    walked_byte_off t c.if-gap.false c.byte_at.ensures c.if-byte_at-byte.true
+pub returns-in_default-split_first : goal.returns-in_default-split_first
+returns-in_default-split_first c =
+    walked_byte_off c.loop-byte.invariant c.loop-byte-test.true refl (sym c.in_default.is ∙ c.gap_of.ensures)
+    (λ left e. c.if-first-byte.false (cc (c.in-Some-split_first.ensures.cases.0, e)))
 
-pub overflow_add-at : goal.overflow_add-at
-overflow_add-at c =
-    let t = turn c.loop-i.invariant c.loop-i-test.true c.wide-byte.ensures (c.type_inv.template _) c.gap_of-gap.ensures in
-    omega (arith, walked_there t c.if-gap.false c.byte_at.ensures c.if-byte_at-byte.false)
+pub returns-in_default-split_first-2 : goal.returns-in_default-split_first-2
+returns-in_default-split_first-2 c =
+    let none = rw c.in_default-split_first.is at c.split_first.ensures.cases in
+    walked_byte_off c.loop-byte.invariant c.loop-byte-test.true refl (sym c.in_default.is ∙ c.gap_of.ensures)
+    (λ left e. omega (arith, none, ap length e))
 
-pub loop-i-preserved : goal.loop-i-preserved
-loop-i-preserved c =
-    let t = turn c.loop-i.invariant c.loop-i-test.true c.wide-byte.ensures (c.type_inv.template _) c.gap_of-gap.ensures in
-    elim c.if-gap.branch [
-      | then-gap+else-not-number w ↦
-          rw (w.numbers-is, w.large-is, w.count-is, w.at-is)
-          (walked_gap t w.if-gap.true w.read_numeral-number.ensures (not-false _ w.if-not-number.false) w.either-large.ensures)
-      | else-gap+else-byte_at-byte w ↦
-          rw (w.numbers-is, w.large-is, w.count-is, w.at-is)
-          (walked_byte t w.if-gap.false w.byte_at.ensures w.if-byte_at-byte.false)
+pub loop-byte-preserved : goal.loop-byte-preserved
+loop-byte-preserved c =
+    elim c.match-gap_of.branch [
+      | in-Some+in-Some-read_numeral w ↦
+          rw (w.numbers-is, w.large-is, w.count-is, w.rest-is)
+          (elim w.match-numeral.branch [
+            | in-Some-value w' ↦
+                rw (w'.numbers-is, w'.large-is)
+                (walked_number c.loop-byte.invariant c.loop-byte-test.true refl w.in-Some.ensures w.in-Some-read_numeral.ensures
+                w'.in-Some-value.is)
+            | in-None w' ↦
+                rw (w'.numbers-is, w'.large-is)
+                (walked_over c.loop-byte.invariant c.loop-byte-test.true refl w.in-Some.ensures w.in-Some-read_numeral.ensures
+                w'.in-None.is)
+          ])
+      | in_default+in-Some-split_first w ↦
+          let first = w.in-Some-split_first.ensures.cases.0 in
+          rw (w.numbers-is, w.large-is, w.count-is, w.rest-is)
+          (walked_byte c.loop-byte.invariant c.loop-byte-test.true refl (sym w.in_default.is ∙ c.gap_of.ensures)
+          (first ∙ ap (λ (b : ℕ). b ∷ w.in-Some-split_first.behind.now) w.if-first-byte.true))
     ]
 
-pub returns-then-at-line : goal.returns-then-at-line
-returns-then-at-line c = walked-behind c.loop-i.invariant c.loop-i-test.false c.if-at-line.true
-
 pub returns-then-large : goal.returns-then-large
-returns-then-large c = walked_large c.loop-i.invariant c.loop-i-test.false c.if-at-line.false c.if-large.true
+returns-then-large c =
+    walked_large c.loop-byte.invariant c.loop-byte-test.false (none_left _ (sym c.is_empty.ensures ∙ c.if-not-is_empty.false))
+    c.if-large.true
 
 pub returns : goal.returns
-returns c = walked_all c.loop-i.invariant c.loop-i-test.false c.if-at-line.false c.if-large.false
+returns c =
+    walked_all c.loop-byte.invariant c.loop-byte-test.false (none_left _ (sym c.is_empty.ensures ∙ c.if-not-is_empty.false))
+    c.if-large.false
+
+pub returns-then-not-is_empty : goal.returns-then-not-is_empty
+returns-then-not-is_empty c =
+    walked-behind c.loop-byte.invariant c.loop-byte-test.false (some_left _ (sym c.is_empty.ensures ∙ c.if-not-is_empty.true))
