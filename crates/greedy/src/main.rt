@@ -35,7 +35,6 @@ const OTHERS: u32 = 4;
 
 const TICKING: u32 = 8;
 
-
 // What a run keeps beside its maker of calls and its check: the phase; of the stretch its rate, its level at the start, its
 // ticks and the packets accepted; and the offerings that ended, and those that were exact.
 #[derive(Clone, Copy)]
