@@ -8,12 +8,12 @@ ghost use Rattle.tables.specs.Invariant.{Valid};
 ghost use Rattle.runs.specs.LongRun.{block};
 ghost use Rattle.greedy.specs.Phases.{risen, rate_from, call_in, bought, ended};
 ghost use Rattle.greedy.specs.Phases.{refused_with, offered, joined, paused, ticked, turned};
-ghost use Rattle.greedy.specs.GreedyRun.{level_in};
-ghost use Rattle.greedy.specs.Stands.{Begins, Goes, Tells};
+ghost use Rattle.greedy.specs.GreedyRun.{GreedyRun, level_in, next};
+ghost use Rattle.greedy.specs.Stands.{Begins, Tells, greedy_of};
 
 use definitions::{Answer, INDIFFERENT, Refusal, SHARES};
 use grammar::Call;
-use runs::Progress;
+use runs::{Progress, Run};
 use std::io::Result;
 use tables::{Control, LEVEL, Tables};
 use tally::BLOCK;
@@ -242,35 +242,25 @@ fn begin(seed: u32) -> GreedyProgress
     }
 }
 
-// Makes one call.
-fn call_once(at: GreedyProgress, tables: &mut Tables) -> GreedyProgress
-    requires { Valid at.progress.control tables.old }
-    ensures { Goes 1 at
-        tables.old result
-        tables.new }
-{
-    let draws = runs::draw(at.progress.maker);
-    let call = call_in(at.counts.phase, draws.a, draws.b, draws.c, draws.d);
-    let taken = runs::take(at.progress, tables, draws.maker, call);
-    let level = level_of(taken.progress.control, tables);
-    GreedyProgress {
-        progress: taken.progress,
-        counts: turn(at.counts, taken.answer, draws.c, draws.d, level),
-    }
-}
+impl Run for GreedyProgress {
+    ghost Meaning = { GreedyRun };
 
-// Makes so many calls.
-fn calls(progress: GreedyProgress, tables: &mut Tables, count: u32) -> GreedyProgress
-    requires { Valid progress.progress.control tables.old }
-    ensures { Goes count progress
-        tables.old result
-        tables.new }
-{
-    let mut at = progress;
-    for _ in 0..count {
-        at = call_once(at, tables);
+    ghost control = { λ p. p.progress.control };
+
+    ghost meaning = { greedy_of };
+
+    ghost next = { next };
+
+    fn call_once(self, tables: &mut Tables) -> GreedyProgress {
+        let draws = runs::draw(self.progress.maker);
+        let call = call_in(self.counts.phase, draws.a, draws.b, draws.c, draws.d);
+        let taken = runs::take(self.progress, tables, draws.maker, call);
+        let level = level_of(taken.progress.control, tables);
+        GreedyProgress {
+            progress: taken.progress,
+            counts: turn(self.counts, taken.answer, draws.c, draws.d, level),
+        }
     }
-    at
 }
 
 // Prints the line of the last of so many blocks.
@@ -299,7 +289,7 @@ fn tell(
 fn blocks(rt: &(impl Print + Eprint), seed: u32, count: u32, tables: &mut Tables) {
     let mut at = begin(seed);
     for before in 0..count {
-        at = calls(at, tables, BLOCK);
+        at = runs::calls(at, tables, BLOCK);
         let done = before + 1;
         if !tell(
             rt,

@@ -6,7 +6,11 @@ ghost use Rattle.tables.specs.Tables.{tables};
 ghost use Rattle.tables.specs.Invariant.{Valid};
 ghost use Rattle.runs.specs.Calls.{by_upper, id_of, rate_of, burst_of, packet_of, traffic_at, call_at, k_of, quiet_after};
 ghost use Rattle.runs.specs.Check.{mix, check_with};
-ghost use Rattle.runs.specs.Stands.{Begins, Drawn, Takes, Goes};
+ghost use Rattle.tables.specs.declared.Control.{Control};
+ghost use Rattle.tables.specs.declared.Tables.{Tables};
+ghost use Rattle.runs.specs.LongRun.{LongRun, next};
+ghost use Rattle.runs.specs.Advance.{Advances};
+ghost use Rattle.runs.specs.Stands.{Begins, Drawn, Takes, run_of};
 
 use definitions::{Answer, INDIFFERENT, Outcome, Packet};
 use generator::Generator;
@@ -260,31 +264,50 @@ pub fn take(progress: Progress, tables: &mut Tables, maker: Maker, call: Call) -
     }
 }
 
-// Makes one call.
-fn call_once(progress: Progress, tables: &mut Tables) -> Progress
-    requires { Valid progress.control tables.old }
-    ensures { Goes 1 progress
-        tables.old result
-        tables.new }
-{
-    let draws = draw(progress.maker);
-    let quiet = progress.maker.quiet;
-    let call = call_of(quiet, k_of(draws.a), draws.b, draws.c, draws.d);
-    let maker = draws.maker;
-    let taken = take(progress, tables, maker, call);
-    taken.progress
+// A run of calls, and what one call more makes of what it stands for.
+pub trait Run: Copy {
+    ghost Meaning: { Type 0 };
+
+    ghost control: { Self → Control };
+
+    ghost meaning: { Self → Tables → Meaning };
+
+    ghost next: { Meaning → Meaning };
+
+    // Makes one call.
+    fn call_once(self, tables: &mut Tables) -> Self
+        requires { Valid (control self) tables.old }
+        ensures { Advances control meaning next 1 self
+            tables.old result
+            tables.new };
+}
+
+impl Run for Progress {
+    ghost Meaning = { LongRun };
+
+    ghost control = { λ p. p.control };
+
+    ghost meaning = { run_of };
+
+    ghost next = { next };
+
+    fn call_once(self, tables: &mut Tables) -> Progress {
+        let draws = draw(self.maker);
+        let call = call_of(self.maker.quiet, k_of(draws.a), draws.b, draws.c, draws.d);
+        take(self, tables, draws.maker, call).progress
+    }
 }
 
 // Makes so many calls.
-pub fn calls(progress: Progress, tables: &mut Tables, count: u32) -> Progress
-    requires { Valid progress.control tables.old }
-    ensures { Goes count progress
+pub fn calls<R: Run>(run: R, tables: &mut Tables, count: u32) -> R
+    requires { Valid (R.control run) tables.old }
+    ensures { Advances R.control R.meaning R.next count run
         tables.old result
         tables.new }
 {
-    let mut at = progress;
+    let mut at = run;
     for _ in 0..count {
-        at = call_once(at, tables);
+        at = at.call_once(tables);
     }
     at
 }

@@ -3,7 +3,7 @@ use Rattle.runs.proofs.Going.{goes_none, goes_on}
 use Rattle.runs.proofs.calls.Goals as goal
 
 pub loop-init : goal.loop-init
-loop-init c = goes_none _ _ c.requires
+loop-init g c = goes_none _ _ c.requires
 
 pub loop-preserved : goal.loop-preserved
-loop-preserved c = goes_on c.loop.invariant c.call_once-at.ensures
+loop-preserved g c = goes_on c.loop.invariant c.call_once-at.ensures
