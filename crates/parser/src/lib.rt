@@ -217,6 +217,7 @@ fn terms_behind(line: &[u8], text: &[u8]) -> Result<Terms, Unread>
     read_terms(behind)
 }
 
+// The terms of a join and of a change are read by one function; what is left of the two is their text and their call.
 fn parse_join(line: &[u8]) -> Result<Call, Unread>
     ensures { result ≡ parsed_by join_forms line.now }
 {
@@ -289,7 +290,10 @@ fn parse_arrive(line: &[u8]) -> Result<Call, Unread>
 fn parse_tick(line: &[u8]) -> Result<Call, Unread>
     ensures { result ≡ parsed_by tick_forms line.now }
 {
-    if line != b"(tick)".as_slice() {
+    let Some(rest) = line.strip_prefix(b"(tick)") else {
+        return Err(Unread::NoForm);
+    };
+    if rest.len() > 0 {
         return Err(Unread::NoForm);
     }
     Ok(Call::Tick)
