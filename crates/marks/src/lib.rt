@@ -14,6 +14,7 @@ use definitions::IDS;
 use std::marker::Model;
 
 // Whether an id has a mark. No id from 64 on has one.
+// An `else` and no `&&`, so that a wrong answer past the ids is refused at a fact of its own.
 pub fn has(word: u64, id: u32) -> bool
     ensures { result ≡ marked word id }
 {
