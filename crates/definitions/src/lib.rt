@@ -32,7 +32,7 @@ pub const LONGEST: u32 = 1518;
 // How many values a draw may throw away.
 pub const THROWS: u32 = 8;
 
-// The kinds of a client, the paper's types.
+// The kinds of a client, the paper's types, as numbers: a call's argument may be any number. What is one of these is read as a ClientKind.
 pub const INDIFFERENT: u32 = 1;
 
 pub const PRIVATE: u32 = 2;

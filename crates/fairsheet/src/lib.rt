@@ -10,7 +10,7 @@ ghost use Rattle.printer.specs.Appended.{Appended};
 ghost use Rattle.fairsheet.specs.SheetRead.{DemandsRead, SheetRead};
 ghost use Rattle.fairsheet.specs.Written.{sheet_room, SheetWritten};
 
-use definitions::{Answer, IDS};
+use definitions::{Answer, IDS, Refusal};
 use grammar::{TEXT_LIMIT, Unread};
 use printer::LINE_ROOM;
 
@@ -19,10 +19,8 @@ const ROWS: usize = IDS as usize;
 
 pub const SHEET_ROOM: usize = ROWS * LINE_ROOM;
 
-// What a text that is too long is answered with, and demands that fail the one check.
+// What a text that is too long is answered with: the number of no check of a call, and so no Refusal.
 const TOO_LONG: u32 = 18;
-
-const UNFAIR: u32 = 22;
 
 // What was read of a text that is not refused: its threshold, and how many demands there are.
 #[derive(Clone, Copy)]
@@ -114,7 +112,7 @@ fn print_rates(threshold: u32, listed: &[u32], demands: &[u32], out: &mut [u8]) 
     let mut rates = [0u32; ROWS];
     let answer = maxmin::rates(threshold, listed, demands, &mut rates);
     let Answer::Accepted = answer else {
-        return printer::print_refused(out, 0, UNFAIR);
+        return printer::print_refused(out, 0, Refusal::Unfair.number());
     };
     put_rates(listed, &rates, out)
 }
@@ -138,7 +136,7 @@ pub fn print(text: &[u8], out: &mut [u8]) -> usize
     };
     let count = reading.count;
     if count > ROWS {
-        return printer::print_refused(out, 0, UNFAIR);
+        return printer::print_refused(out, 0, Refusal::Unfair.number());
     }
     print_rates(reading.threshold, &listed[..count], &demands[..count], out)
 }

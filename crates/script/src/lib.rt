@@ -21,7 +21,7 @@ use grammar::{Audience, Call, TEXT_LIMIT, Unread};
 use slot::Ticked;
 use tables::{Answered, Control, Tables};
 
-// What a text that is too long is answered with.
+// What a text that is too long is answered with: the number of no check of a call, and so no Refusal.
 const TOO_LONG: u32 = 18;
 
 // How far a script was read: the control there, the place behind the last line, and how many bytes were written.

@@ -36,7 +36,7 @@ returns-then-count-gt-ROWS c =
     let space : sheet_room ≤ length c.args.out.now = omega (arith, c.if-out-lt-SHEET_ROOM.false) in
     told_read _ _ space (omega (arith, c.if-text-gt-TEXT_LIMIT.false))
     (appended_as (sym (rows_many (read_rows _ c.in-Ok.ensures) (omega (arith, c.if-count-gt-ROWS.true))))
-    (line_written space c.print_refused-then-count-gt-ROWS.ensures))
+    (line_written space (rw c.number-then-count-gt-ROWS.ensures at c.print_refused-then-count-gt-ROWS.ensures)))
 
 pub print_rates-requires : goal.print_rates-requires
 unfolding ids
