@@ -285,7 +285,8 @@ fn tell(
     tally::is_whole(rt, line, "greedy: standard output")
 }
 
-// So many blocks from a seed, with a line after each. It ends at a line that could not be written.
+// So many blocks from a seed, with a line after each. It ends at a line that could not be written. The other programs of long runs start,
+// make a block and tell of it otherwise: a function that takes all three, with what they promise, is longer than the loops.
 fn blocks(rt: &(impl Print + Eprint), seed: u32, count: u32, tables: &mut Tables) {
     let mut at = begin(seed);
     for before in 0..count {

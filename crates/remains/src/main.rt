@@ -137,7 +137,8 @@ fn tell(rt: &(impl Print + Eprint), earlier: u32, seed: u32, blocks: u32, check:
     tally::print_line(rt, blocks, check, "remains: standard output")
 }
 
-// So many blocks from a seed, with a line after each. It ends at a line that could not be written.
+// So many blocks from a seed, with a line after each. It ends at a line that could not be written. The other programs of long runs start,
+// make a block and tell of it otherwise: a function that takes all three, with what they promise, is longer than the loops.
 fn blocks(
     rt: &(impl Print + Eprint),
     earlier: u32,

@@ -206,6 +206,7 @@ fn check_slot(h: u32, outcome: Outcome) -> u32
             padding,
         } => {
             let named = mix(mix(h, 3), id);
+            // each half has 32 bits, so that u32::try_from would have an arm that never runs
             let low = mix(named, (packet.handle % WORD) as u32);
             let high = mix(low, (packet.handle / WORD) as u32);
             mix(mix(high, packet.length), padding)
