@@ -3,7 +3,6 @@
 
 ghost use Rattle.std.specs.Prelude.{◌≡◌, ◌*◌, ◌<◌, ◌≤◌, length};
 ghost use Rattle.definitions.specs.Sizes.{ids};
-ghost use Rattle.tables.specs.Tables.{tables};
 ghost use Rattle.tables.specs.Invariant.{Valid};
 
 use definitions::{Answer, IDS, INDIFFERENT, Outcome, PRIVATE, Packet};
@@ -73,8 +72,7 @@ fn join_ids(
     burst: u32,
 ) -> Control
     requires { Valid control tables.old }
-    ensures { Valid result
-        tables.new }
+    ensures { Valid result tables.new }
 {
     let mut at = control;
     for id in first..end {
@@ -139,8 +137,7 @@ fn refused_round(
     sum: u64,
 ) -> Tally
     requires { Valid control tables.old × (beyond ≤ 64) }
-    ensures { Valid result.control
-        tables.new }
+    ensures { Valid result.control tables.new }
 {
     let no_sender = beyond + k % 8;
     let no_loader = beyond + k % 4;
@@ -156,10 +153,8 @@ fn refused_round(
 }
 
 fn refused_rounds(control: Control, tables: &mut Tables, n: u32, beyond: u32, rounds: u32) -> Tally
-    requires { Valid control tables.old × (1 ≤ n)
-        × (beyond ≤ 64) }
-    ensures { Valid result.control
-        tables.new }
+    requires { Valid control tables.old × (1 ≤ n) × (beyond ≤ 64) }
+    ensures { Valid result.control tables.new }
 {
     let mut at = Tally { control, sum: 0 };
     let mut id: u32 = 0;
@@ -174,8 +169,7 @@ fn refused_rounds(control: Control, tables: &mut Tables, n: u32, beyond: u32, ro
 // One arrival and one tick.
 fn traffic_round(control: Control, tables: &mut Tables, id: u32, k: u32, sum: u64) -> Tally
     requires { Valid control tables.old }
-    ensures { Valid result.control
-        tables.new }
+    ensures { Valid result.control tables.new }
 {
     let a = traffic::arrive(control, tables, id, packet(k, 64 + k % 1024));
     let b = slot::tick(a.control, tables).answered;
@@ -193,8 +187,7 @@ pub fn traffic_rounds(
     rounds: u32,
 ) -> Tally
     requires { Valid control tables.old × (first < n) }
-    ensures { Valid result.control
-        tables.new }
+    ensures { Valid result.control tables.new }
 {
     let mut at = Tally { control, sum: 0 };
     let mut id = first;
@@ -243,8 +236,7 @@ fn stage_of(k: u32, n: u32, indifferents: u32, each: u32, rounds: u32) -> Stage
 
 pub fn run_stage(control: Control, tables: &mut Tables, n: u32, s: Stage) -> Tally
     requires { Valid control tables.old × (s.from < s.to) }
-    ensures { Valid result.control
-        tables.new }
+    ensures { Valid result.control tables.new }
 {
     let joined = join_ids(control, tables, s.first, s.end, s.kind, s.rate, s.burst);
     let filled = fill_queues(joined, tables, n, s.each);
@@ -260,10 +252,8 @@ fn run_stages(
     each: u32,
     rounds: u32,
 ) -> Tally
-    requires { Valid control tables.old
-        × (1 ≤ n) × (n ≤ 2 * ids) }
-    ensures { Valid result.control
-        tables.new }
+    requires { Valid control tables.old × (1 ≤ n) × (n ≤ 2 * ids) }
+    ensures { Valid result.control tables.new }
 {
     let mut at = Tally { control, sum: 0 };
     for k in 0..2 {
@@ -275,6 +265,7 @@ fn run_stages(
 
 // A whole sequence on a fresh core: mode 0 is arrivals and ticks, mode 64 only refused calls.
 #[tactic(auto, unfolding(definitions::specs::Sizes::ids))]
+// The mode is a number, and what is out of range gives 0: the C interface.
 pub fn bench_run(
     privates: u32,
     indifferents: u32,
@@ -328,6 +319,7 @@ fn list_ids(listed: &mut [u32; LISTED])
 }
 
 // The rates of one list after the other, each with one demand set anew.
+// Two lists, as `maxmin::rates` takes them.
 fn fair_rounds(
     listed: &[u32],
     demands: &mut [u32],

@@ -6,7 +6,6 @@ ghost use Rattle.std.specs.Prelude.{◌≡◌, ◌+◌, ◌≤◌, length};
 ghost use Rattle.grammar.specs.CountLines.{line_of};
 ghost use Rattle.printer.specs.Printed.{line_room, LineWritten};
 ghost use Rattle.tables.specs.declared.Tables.{Tables};
-ghost use Rattle.tables.specs.Tables.{tables};
 ghost use Rattle.tables.specs.Meaning.{whole_of};
 ghost use Rattle.bill.specs.Billed.{bill_room, AllLines, Billed};
 
@@ -20,6 +19,7 @@ use tables::{Control, Tables};
 const BILL_ROOM: usize = IDS as usize * LINE_ROOM;
 
 // Writes the line of an id; one that is not active has none.
+// A buffer and a place, as crate printer takes them.
 fn print_line(out: &mut [u8], at: usize, control: Control, counts: &[u64; COUNTS], id: u32) -> usize
     ensures { ((t : Tables) → t.counts ≡ counts.now
         → LineWritten (line_of (whole_of control t) id) out.old at out.new result) × (result ≤ at + line_room) }
@@ -45,10 +45,7 @@ fn print_lines(out: &mut [u8], control: Control, counts: &[u64; COUNTS]) -> usiz
 // Writes the lines behind a text at the start of the buffer, and gives how many bytes they have. The tables may hold anything. Without
 // room for a line of every id nothing is done.
 pub fn bill(text: &[u8], out: &mut [u8], tables: &mut Tables) -> usize
-    ensures { Billed text.now out.old
-        tables.old
-        out.new result
-        tables.new }
+    ensures { Billed text.now out.old tables.old out.new result tables.new }
 {
     if out.len() < BILL_ROOM {
         return 0;

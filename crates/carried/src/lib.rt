@@ -2,7 +2,6 @@
 // and the counts that it leaves.
 #![tactic(auto)]
 
-ghost use Rattle.tables.specs.Tables.{tables};
 ghost use Rattle.carried.specs.CarriedOut.{CarriedOut};
 
 use grammar::{Audience, TEXT_LIMIT};
@@ -12,8 +11,7 @@ use tables::Tables;
 // Carries a script out from an unopened core on; the tables may hold anything. Each piece writes its answers over those before. Of a text
 // that is too long the one line is written at the start of the buffer, and without room for a line nothing is carried out.
 pub fn carry_out(text: &[u8], out: &mut [u8], tables: &mut Tables) -> Progress
-    ensures { CarriedOut text.now out.new result
-        tables.new }
+    ensures { CarriedOut text.now out.new result tables.new }
 {
     let first = script::start(text, out);
     if !printer::has_room(out.len(), 0) {
@@ -24,6 +22,7 @@ pub fn carry_out(text: &[u8], out: &mut [u8], tables: &mut Tables) -> Progress
     }
     let mut control = first.control;
     let mut at = first.next;
+    // where the next piece begins is where this one came to: no index is counted
     while at < text.len() {
         let piece = script::piece(Audience::Caller, text, at, out, control, tables);
         control = piece.control;

@@ -76,6 +76,7 @@ pub fn clear(counts: &mut [u64; COUNTS], id: u32)
 }
 
 // Counts a packet that was refused with a number: 14 and 15 have a count each, and no other number has one.
+// By number and no Refusal: `entry_of_drop` is over every number.
 pub fn drop(counts: &mut [u64; COUNTS], id: u32, number: u32)
     requires { (number ≡ 14 → id < ids) × (number ≡ 15 → id < ids) }
     ensures { Entered (for_one id (entry_of_drop number)) counts.old counts.new }

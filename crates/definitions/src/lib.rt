@@ -37,6 +37,7 @@ pub const INDIFFERENT: u32 = 1;
 
 pub const PRIVATE: u32 = 2;
 
+// The disciplines are numbers: a call's argument may be any, and `state_of` of a control reads it.
 // The discipline by which the packet that was accepted earliest goes first.
 pub const FIRST_COME: u32 = 0;
 
@@ -67,7 +68,8 @@ pub enum Outcome {
     None,
 }
 
-// What a call gets: accepted, the number of the first check that failed, or the slot.
+// What a call gets: accepted, the number of the first check that failed, or the slot. It is a number and no Refusal, since a script's lines
+// are answered with 16 to 18 too, and the laws over printing hold for every number.
 #[derive(Clone, Copy)]
 pub enum Answer {
     Accepted,

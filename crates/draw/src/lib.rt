@@ -90,6 +90,7 @@ pub fn sample_below(total: u64, generator: Generator) -> Sample
 }
 
 // The rates of all ids that have a mark, together. The sum of 64 rates fits a u64.
+// By a `for`: of `marks::ids(word).map(..).sum()` the check leaves open that an id is below 64 and that the sum fits.
 pub fn total(word: u64, terms: &[u32; TERMS]) -> u64
     ensures { result ≡ sum_below ids (weight_at word terms.now) }
 {
@@ -101,6 +102,7 @@ pub fn total(word: u64, terms: &[u32; TERMS]) -> u64
 }
 
 // The first id at which the running sum of rates exceeds the target; 64 if it never does.
+// A number and no None, as `drawn_at` of the definitions is.
 pub fn pick(word: u64, terms: &[u32; TERMS], target: u32) -> u32
     ensures { result ≡ drawn_at (weight_at word terms.now) target }
 {

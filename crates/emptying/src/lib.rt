@@ -3,7 +3,6 @@
 #![tactic(auto)]
 
 ghost use Rattle.std.specs.Prelude.{◌≡◌, ◌<◌, ◌≤◌};
-ghost use Rattle.tables.specs.Tables.{tables};
 ghost use Rattle.tables.specs.Invariant.{Valid};
 ghost use Rattle.tables.specs.Places.{PlacesStand};
 
@@ -93,8 +92,7 @@ fn tallied(sum: u64, answered: Answered) -> Tally
 // One client leaves, or changes to the new kind.
 fn empty(control: Control, tables: &mut Tables, id: u32, plan: Plan) -> Answered
     requires { Valid control tables.old }
-    ensures valid { Valid result.control
-        tables.new }
+    ensures valid { Valid result.control tables.new }
     ensures stand { PlacesStand tables.old
         tables.new }
 {
@@ -107,8 +105,7 @@ fn empty(control: Control, tables: &mut Tables, id: u32, plan: Plan) -> Answered
 // The clients below the end are emptied, one after the other.
 fn empty_ids(control: Control, tables: &mut Tables, end: u32, plan: Plan, before: u64) -> Tally
     requires { Valid control tables.old }
-    ensures valid { Valid result.control
-        tables.new }
+    ensures valid { Valid result.control tables.new }
     ensures stand { PlacesStand tables.old
         tables.new }
 {
@@ -125,8 +122,7 @@ fn empty_ids(control: Control, tables: &mut Tables, end: u32, plan: Plan, before
 // Rounds in which the tables are put back as they were, but for the places, which stand, and the clients are emptied.
 fn empty_rounds(control: Control, tables: &mut Tables, end: u32, plan: Plan, rounds: u32) -> Tally
     requires { Valid control tables.old }
-    ensures { Valid result.control
-        tables.new }
+    ensures { Valid result.control tables.new }
 {
     let kept_terms = tables.terms;
     let kept_stocks = tables.stocks;
@@ -146,8 +142,7 @@ fn empty_rounds(control: Control, tables: &mut Tables, end: u32, plan: Plan, rou
 // The crowd and the clients to be emptied, on a fresh core.
 fn set_up(tables: &mut Tables, plan: Plan) -> Tally
     requires { 1 ≤ plan.clients }
-    ensures { Valid result.control
-        tables.new }
+    ensures { Valid result.control tables.new }
 {
     let first = crowd(plan);
     let second = own(plan);
@@ -168,6 +163,7 @@ fn emptying(tables: &mut Tables, plan: Plan, end: u32, rounds: u32) -> u64
 }
 
 // Rounds that empty clients with packets waiting.
+// What to change to is a number, and 0 for a leave: the C interface.
 pub fn bench_emptying(
     clients: u32,
     kind: u32,
@@ -195,8 +191,7 @@ pub fn bench_emptying(
 
 fn open_rounds(control: Control, tables: &mut Tables, rounds: u32) -> Tally
     requires { Valid control tables.old }
-    ensures { Valid result.control
-        tables.new }
+    ensures { Valid result.control tables.new }
 {
     let mut at = Tally { control, sum: 0 };
     for k in 0..rounds {

@@ -39,6 +39,7 @@ fn keep(column: &mut [u32], row: usize, n: u32)
 }
 
 // How many demands there are from a place on. A line of another shape ends the reading at once.
+// Ids and demands are two lists, as `maxmin::rates` takes them.
 fn read_demands(
     text: &[u8],
     from: usize,
@@ -51,6 +52,7 @@ fn read_demands(
     let mut large = false;
     let mut count = 0;
     let mut at = from;
+    // where the next line begins is where `line_at` says: no index is counted
     while at < text.len() {
         let next = reader::line_at(text, at).next;
         match parser::demand(&text[at..next]) {

@@ -10,6 +10,7 @@ use definitions::Packet;
 // The longest text that is read. For the proofs it stands in specs/Bytes.antt, and where the two disagree a proof fails.
 pub const TEXT_LIMIT: usize = 60000;
 
+// Kinds and disciplines are numbers here, as in `Event`, which it stands for.
 // The calls that a form may stand for, with their arguments in the order of the paper. Any number may stand anywhere.
 #[derive(Clone, Copy)]
 pub enum Call {

@@ -263,7 +263,7 @@ impl Run for GreedyProgress {
     }
 }
 
-// Prints the line of the last of so many blocks.
+// Prints the line of the last of so many blocks, by the same beginning as `tally`'s line; what stands behind it is this program's.
 fn print_whole(rt: &impl Print, blocks: u32, check: u32, offerings: u32, exact: u32) -> Result<()> {
     tally::print_check(rt, blocks, check)?;
     println!(rt; " offerings {offerings} exact {exact})")
@@ -305,12 +305,7 @@ fn blocks(rt: &(impl Print + Eprint), seed: u32, count: u32, tables: &mut Tables
     }
 }
 
-// A run on tables of its own.
-fn run(rt: &(impl Print + Eprint), seed: u32, count: u32) {
-    let mut tables = Tables::filled(0);
-    blocks(rt, seed, count, &mut tables);
-}
-
+// The programs of long runs begin alike; what is left of each is its usage and its blocks.
 fn main(rt: HostRuntime) {
     let given = arguments::numbers(arguments::count(&rt), |i| arguments::number(&rt, i));
     let Some(numbers): Option<[u32; 2]> = given else {
@@ -318,5 +313,5 @@ fn main(rt: HostRuntime) {
         return;
     };
     let [seed, count] = numbers;
-    run(&rt, seed, count);
+    blocks(&rt, seed, count, &mut Tables::filled(0));
 }

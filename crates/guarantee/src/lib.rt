@@ -27,6 +27,7 @@ fn demand_at(terms: &[u32; TERMS], stocks: &[u32; STOCKS], id: u32, ticks: u32) 
 }
 
 // What all marked clients may take. The sum of 64 demands fits a u64.
+// By a `for`, as `draw::total` is.
 fn demand(word: u64, terms: &[u32; TERMS], stocks: &[u32; STOCKS], ticks: u32) -> u64
     ensures { result ≡ sum_below ids (marked_number word (demand_at terms.now stocks.now ticks)) }
 {
@@ -39,6 +40,7 @@ fn demand(word: u64, terms: &[u32; TERMS], stocks: &[u32; STOCKS], ticks: u32) -
 
 // Of how many picks the private side is sure in the next ticks: 0 where the demand passes them, where no private client is
 // active, and of an unopened core.
+// Two tables and no &Tables: the contract says the figure of control, terms and stocks alone.
 pub fn sure(control: Control, terms: &[u32; TERMS], stocks: &[u32; STOCKS], ticks: u32) -> u32
     ensures { (handles lengths links counts : List ℕ)
         → Valid control (tables terms.now stocks.now handles lengths links counts)

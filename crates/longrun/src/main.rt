@@ -28,12 +28,7 @@ fn blocks(rt: &(impl Print + Eprint), seed: u32, count: u32, tables: &mut Tables
     }
 }
 
-// A run on tables of its own.
-fn run(rt: &(impl Print + Eprint), seed: u32, count: u32) {
-    let mut tables = Tables::filled(0);
-    blocks(rt, seed, count, &mut tables);
-}
-
+// The programs of long runs begin alike; what is left of each is its usage and its blocks.
 fn main(rt: HostRuntime) {
     let given = arguments::numbers(arguments::count(&rt), |i| arguments::number(&rt, i));
     let Some(numbers): Option<[u32; 2]> = given else {
@@ -41,5 +36,5 @@ fn main(rt: HostRuntime) {
         return;
     };
     let [seed, count] = numbers;
-    run(&rt, seed, count);
+    blocks(&rt, seed, count, &mut Tables::filled(0));
 }

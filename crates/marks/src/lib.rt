@@ -54,6 +54,7 @@ pub fn any(word: u64) -> bool
 }
 
 // The lowest id that has a mark; 64 if none has.
+// A number and no None, as `first_from` of the definitions is.
 pub fn first(word: u64) -> u32
     ensures { result ≡ first_from 0 ids (marked word) }
 {

@@ -10,10 +10,7 @@ ghost use Rattle.definitions.specs.Checks.{within};
 ghost use Rattle.definitions.specs.FairRates.{cut_sum, fair_level, extra, rates_at, entry_fits, listed_from, acceptable};
 ghost use Rattle.maxmin.specs.Shared.{Shared};
 
-use definitions::{Answer, IDS, SHARES};
-
-// The number of the one check, and no Refusal: must-fail/refused_with_21 gives another number, which no Refusal has.
-const UNFAIR: u32 = 22;
+use definitions::{Answer, IDS, Refusal, SHARES};
 
 #[tactic(auto, unfolding(definitions::specs::Checks::within, definitions::specs::Sizes::shares))]
 fn is_share(n: u32) -> bool
@@ -115,7 +112,9 @@ pub fn rates(threshold: u32, listed: &[u32], demands: &[u32], rates: &mut [u32])
     ensures { Shared threshold listed.now demands.now rates.old result rates.new }
 {
     if !is_acceptable(threshold, listed, demands) || rates.len() < demands.len() {
-        return Answer::Refused { number: UNFAIR };
+        return Answer::Refused {
+            number: Refusal::Unfair.number(),
+        };
     }
     let level = fair_level(threshold, demands);
     let left = threshold - cut_sum(demands, level);

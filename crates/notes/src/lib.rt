@@ -15,6 +15,7 @@ use definitions::{Answer, Drawing, Note, Outcome, Refusal};
 use tables::Control;
 
 // By which draw a slot went, if there was one: from the control after it and the sum of the rates in the draw, 0 where there was none.
+// The sum is that of a tick's sample, which has 0 for no draw (`StandsFor`).
 pub fn reason(control: Control, sum: u64) -> Option<Drawing>
     ensures { (t : Tables) → result ≡ reason_left sum (core_of control t) }
 {

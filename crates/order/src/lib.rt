@@ -56,6 +56,7 @@ pub fn unlink(links: &mut [u32; LINKS], place: u32)
 }
 
 // The place that was accepted earliest, and END where none waits.
+// A number and no None: the clause `upper_bound` holds of it.
 pub fn front(links: &[u32; LINKS]) -> u32
     requires { Sound links.now }
     ensures upper_bound { result ≤ sentinel }

@@ -27,7 +27,7 @@ struct Numeral<'a> {
     rest: &'a [u8],
 }
 
-// The numbers of a form that has one or two: 0 for a second that it does not have.
+// The numbers of a form that has one or two: 0 for a second that it does not have, as `pair_of` says of the threshold's form.
 #[derive(Clone, Copy)]
 pub struct Pair {
     pub first: u32,

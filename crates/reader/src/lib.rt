@@ -23,6 +23,7 @@ pub struct Span {
 const LINE_FEED: u8 = 10;
 
 // Where the line that begins at `at` ends: at its line feed, or at the end of the text.
+// By index: `at` may lie behind the text, and the contract wants it back then.
 fn line_end(text: &[u8], at: usize) -> usize
     ensures { result ≡ line_end text.now at }
 {

@@ -5,7 +5,6 @@
 
 ghost use Rattle.std.specs.Prelude.{◌≡◌, ◌*◌, ◌%◌, ◌<◌};
 ghost use Rattle.order.specs.Order.{sentinel};
-ghost use Rattle.tables.specs.Tables.{tables};
 ghost use Rattle.tables.specs.Invariant.{Valid};
 ghost use Rattle.runs.specs.LongRun.{block, further};
 ghost use Rattle.runs.specs.Stands.{Goes};
@@ -43,6 +42,7 @@ fn lower_half(number: u32) -> u16
     (number % 65536) as u16
 }
 
+// Two arrays, as the tables have them, gone through by place, as the definition `overwritten_unused` is.
 // Overwrites one place, unless a packet waits there.
 #[tactic(auto, unfolding(definitions::specs::Sizes::ids, definitions::specs::Sizes::places, order::specs::Order::sentinel, crate::specs::Remains::overwritten_at))]
 fn overwrite_at(
@@ -85,9 +85,7 @@ fn overwrite_unused(
 // Makes a stretch of calls, and overwrites what they left where no packet waits.
 fn stretch(progress: Progress, tables: &mut Tables, number: u32) -> Progress
     requires { Valid progress.control tables.old }
-    ensures { Goes stretch progress
-        tables.old result
-        tables.new }
+    ensures { Goes stretch progress tables.old result tables.new }
 {
     let at = runs::calls(progress, tables, STRETCH);
     overwrite_unused(
@@ -103,9 +101,7 @@ fn stretch(progress: Progress, tables: &mut Tables, number: u32) -> Progress
 // Makes the calls of a block.
 fn block(progress: Progress, tables: &mut Tables, number: u32) -> Progress
     requires { Valid progress.control tables.old }
-    ensures { Goes block progress
-        tables.old result
-        tables.new }
+    ensures { Goes block progress tables.old result tables.new }
 {
     let mut at = progress;
     for _ in 0..STRETCHES {
@@ -116,8 +112,7 @@ fn block(progress: Progress, tables: &mut Tables, number: u32) -> Progress
 
 // Where a run starts: on an unopened core, or on the one that a block of calls from an earlier seed left.
 fn start(earlier: u32, seed: u32, tables: &mut Tables) -> Progress
-    ensures { Starts earlier seed result
-        tables.new }
+    ensures { Starts earlier seed result tables.new }
 {
     if earlier == 0 {
         return runs::begin(seed);
@@ -157,12 +152,7 @@ fn blocks(
     }
 }
 
-// A run on tables of its own, which hold a number throughout.
-fn run(rt: &(impl Print + Eprint), seed: u32, count: u32, number: u32, earlier: u32) {
-    let mut tables = Tables::filled(number);
-    blocks(rt, earlier, seed, count, &mut tables, number);
-}
-
+// The programs of long runs begin alike; what is left of each is its usage and its blocks.
 fn main(rt: HostRuntime) {
     let given = arguments::numbers(arguments::count(&rt), |i| arguments::number(&rt, i));
     let Some(numbers): Option<[u32; 4]> = given else {
@@ -170,5 +160,7 @@ fn main(rt: HostRuntime) {
         return;
     };
     let [seed, count, number, earlier] = numbers;
-    run(&rt, seed, count, number, earlier);
+    // the tables hold the number throughout
+    let mut tables = Tables::filled(number);
+    blocks(&rt, earlier, seed, count, &mut tables, number);
 }

@@ -2,7 +2,6 @@
 #![tactic(auto)]
 
 ghost use Rattle.std.specs.Prelude.{◌≡◌};
-ghost use Rattle.tables.specs.Tables.{tables};
 ghost use Rattle.tables.specs.Invariant.{Valid};
 ghost use Rattle.runs.specs.Calls.{by_upper, id_of, rate_of, burst_of, packet_of, traffic_at, call_at, k_of, quiet_after};
 ghost use Rattle.runs.specs.Check.{mix, check_with};
@@ -247,9 +246,7 @@ pub fn begin(seed: u32) -> Progress
 // Carries a call out, and mixes its answer into the check. The maker is as the call's draws have left it.
 pub fn take(progress: Progress, tables: &mut Tables, maker: Maker, call: Call) -> Taken
     requires { Valid progress.control tables.old }
-    ensures { Takes call maker progress
-        tables.old result
-        tables.new }
+    ensures { Takes call maker progress tables.old result tables.new }
 {
     let answered = script::perform(progress.control, tables, call);
     let control = answered.control;
@@ -302,9 +299,7 @@ impl Run for Progress {
 // Makes so many calls.
 pub fn calls<R: Run>(run: R, tables: &mut Tables, count: u32) -> R
     requires { Valid (R.control run) tables.old }
-    ensures { Advances R.control R.meaning R.next count run
-        tables.old result
-        tables.new }
+    ensures { Advances R.control R.meaning R.next count run tables.old result tables.new }
 {
     let mut at = run;
     for _ in 0..count {

@@ -8,7 +8,6 @@ ghost use Rattle.grammar.specs.Calls.{event_of};
 ghost use Rattle.printer.specs.Printed.{line_room, LineWritten};
 ghost use Rattle.reader.specs.LineSpans.{is_end};
 ghost use Rattle.tables.specs.declared.Tables.{Tables};
-ghost use Rattle.tables.specs.Tables.{tables};
 ghost use Rattle.tables.specs.Meaning.{core_of};
 ghost use Rattle.tables.specs.Invariant.{Valid};
 ghost use Rattle.tables.specs.Places.{Promised};
@@ -45,9 +44,7 @@ fn undrawn(answered: Answered, generator: Generator) -> Ticked
 // Carries a call out, and gives beside its answer what a tick drew.
 fn perform_told(control: Control, tables: &mut Tables, call: Call) -> Ticked
     requires { Valid control tables.old }
-    ensures { PerformedCall call control
-        tables.old result
-        tables.new }
+    ensures { PerformedCall call control tables.old result tables.new }
 {
     let generator = control.generator;
     match call {
@@ -93,15 +90,14 @@ fn perform_told(control: Control, tables: &mut Tables, call: Call) -> Ticked
 // Carries a call out.
 pub fn perform(control: Control, tables: &mut Tables, call: Call) -> Answered
     requires { Valid control tables.old }
-    ensures { Promised (event_of call) control
-        tables.old result
-        tables.new }
+    ensures { Promised (event_of call) control tables.old result tables.new }
 {
     let performed = perform_told(control, tables, call);
     performed.answered
 }
 
 // Writes what a line without a form shows: its number, to the caller alone.
+// A buffer and a place, as crate printer takes them.
 fn print_unread(audience: Audience, out: &mut [u8], at: usize, unread: Unread) -> usize
     ensures { LineWritten (unread_for audience unread) out.old at out.new result }
 {
@@ -166,12 +162,8 @@ fn line(
     control: Control,
     tables: &mut Tables,
 ) -> Progress
-    requires { Valid control tables.old
-        × (at < length text.now) × (written + line_room ≤ length out.old) }
-    ensures { Walked audience text.now at control
-        tables.old
-        (take written out.old) out.new result
-        tables.new × (at < result.next) }
+    requires { Valid control tables.old × (at < length text.now) × (written + line_room ≤ length out.old) }
+    ensures { Walked audience text.now at control tables.old (take written out.old) out.new result tables.new × (at < result.next) }
 {
     let span = reader::line_at(text, at);
     let end = span.end;
@@ -246,14 +238,12 @@ pub fn piece(
     tables: &mut Tables,
 ) -> Progress
     requires { Valid control tables.old }
-    ensures { Piece audience text.now at control
-        tables.old
-        out.new result
-        tables.new }
+    ensures { Piece audience text.now at control tables.old out.new result tables.new }
 {
     let mut core = control;
     let mut place = at;
     let mut written: usize = 0;
+    // where the next line begins is where this one ended: no index is counted
     while goes_on(text, place, out.len(), written) {
         let progress = line(audience, text, place, out, written, core, tables);
         core = progress.control;

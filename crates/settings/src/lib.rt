@@ -12,7 +12,7 @@ ghost use Rattle.definitions.specs.Refusals.{number_in};
 ghost use Rattle.order.specs.Order.{Sound, Ordered};
 ghost use Rattle.order.specs.Owner.{places_of};
 ghost use Rattle.tables.specs.declared.Tables.{Tables};
-ghost use Rattle.tables.specs.Tables.{tables, count_at, ring};
+ghost use Rattle.tables.specs.Tables.{count_at, ring};
 ghost use Rattle.tables.specs.Controls.{with_rates};
 ghost use Rattle.tables.specs.Meaning.{kind_at};
 ghost use Rattle.tables.specs.Invariant.{Valid};
@@ -153,8 +153,7 @@ fn clear(control: Control, stocks: &mut [u32; STOCKS], id: u32) -> Control
 // Takes away all that an id has to send, its places in the order too. No handle and no length is written.
 fn empty(control: Control, stocks: &mut [u32; STOCKS], links: &mut [u32; LINKS], id: u32) -> Control
     requires { Ready stocks.old links.old id }
-    ensures { Empties control stocks.old links.old id
-        result stocks.new links.new }
+    ensures { Empties control stocks.old links.old id result stocks.new links.new }
 {
     withdraw(control, stocks, links, id);
     clear(control, stocks, id)
@@ -255,6 +254,7 @@ fn waiting_of(stocks: &[u32; STOCKS], id: u32) -> u64
 }
 
 // Sets an inactive id up with a client, whose counts begin at zero (paper 01, "Join"). Refused: 19, 4, 6, 7, 8, 9, 10.
+// The kind is a number: a call may name any, and `Promised (Join id kind ..)` answers 7 to one that is none.
 pub fn join(
     control: Control,
     tables: &mut Tables,

@@ -180,6 +180,7 @@ fn settle(control: Control, left: u32, id: u32) -> Control
     after
 }
 
+// Those who send take the tables that they read or write one by one, so that no other can be written (`Spends`).
 // An id sends its first packet: it goes from the queue, from the order and, with the last one, from the marks.
 fn send_packet(
     control: Control,
@@ -190,8 +191,7 @@ fn send_packet(
     id: u32,
 ) -> Sent
     requires { SomeSender control stocks.old handles.now lengths.now links.old id × (0 < count_at stocks.old id) }
-    ensures { Spends control stocks.old handles.now lengths.now links.old id result
-        stocks.new links.new }
+    ensures { Spends control stocks.old handles.now lengths.now links.old id result stocks.new links.new }
 {
     let place = id * PLACES + stocks[(HEAD + id) as usize];
     let packet = packet_at(handles, lengths, place);
@@ -219,8 +219,7 @@ fn send(
     id: u32,
 ) -> Sent
     requires { SomeSender control stocks.old handles.now lengths.now links.old id }
-    ensures { Spends control stocks.old handles.now lengths.now links.old id result
-        stocks.new links.new }
+    ensures { Spends control stocks.old handles.now lengths.now links.old id result stocks.new links.new }
 {
     if marks::has(control.waiting, id) {
         return send_packet(control, stocks, handles, lengths, links, id);
@@ -318,12 +317,8 @@ pub struct Ticked {
 // Refused: 19.
 pub fn tick(control: Control, tables: &mut Tables) -> Ticked
     requires { Valid control tables.old }
-    ensures promised { Promised Tick control
-        tables.old
-        result.answered
-        tables.new }
-    ensures stands_for { StandsFor result.sample (draws_of (core_of control
-        tables.old)) }
+    ensures promised { Promised Tick control tables.old result.answered tables.new }
+    ensures stands_for { StandsFor result.sample (draws_of (core_of control tables.old)) }
 {
     if !control.opened {
         let answered = tables::refused(control, Refusal::Unopened.number());

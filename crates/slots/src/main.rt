@@ -76,6 +76,7 @@ fn write_printout(rt: &impl Print, audience: Audience, text: &[u8]) -> Result<us
     write_pieces(rt, audience, text, &mut out, first, &mut tables)
 }
 
+// Each of the three contracts is an equation with a definition of its own: a function over all would take that as a parameter.
 // Writes the forecast behind a text, on tables of its own.
 fn write_forecast(rt: &impl Print, text: &[u8], ticks: u32) -> Result<usize, Error>
     ensures { HandedOn result (forecast_behind text.now ticks) }
@@ -119,6 +120,7 @@ fn write_requested(rt: &impl Print, text: &[u8], request: Request) -> Result<usi
     }
 }
 
+// Options are compared by `==`: of a `match` on the bytes ten of 28 branches did not close.
 // What an option alone asks for.
 #[tactic(auto, using(crate::proofs::OptionBytes::same_bytes_lem), unfolding(crate::specs::Requests::alone))]
 fn option_alone(option: &[u8]) -> Request

@@ -90,6 +90,7 @@ impl Tables {
     }
 }
 
+// By number, as `Answer` has it.
 pub fn refused(control: Control, number: u32) -> Answered
     ensures { result ≡ record { control = control; answer = Answer.Refused number } }
 {
@@ -125,6 +126,7 @@ pub fn lengthened(x: u16) -> u32
     u32::from(x)
 }
 
+// `u64::from` with a clause that bounds it, for callers whose sums have to fit.
 pub fn wide(x: u32) -> u64
     ensures { (result ≡ x) × (result < 2 ^ 32) }
 {

@@ -89,6 +89,7 @@ fn free_place(stocks: &[u32; STOCKS], id: u32) -> u32
     id * PLACES + (head + count) % PLACES
 }
 
+// Two arrays, as the tables have them.
 // Puts a packet at a place. 16 bits hold every length that is accepted.
 fn keep(handles: &mut [u64; STORE], lengths: &mut [u16; STORE], place: u32, packet: Packet)
     requires { (place < ids * places) × (packet.length ≤ longest) }
@@ -122,9 +123,7 @@ fn charge(terms: &mut [u32; TERMS], id: u32)
 // It costs the same however many packets wait. A refusal with 14 or 15 changes its own count and nothing else.
 pub fn arrive(control: Control, tables: &mut Tables, id: u32, packet: Packet) -> Answered
     requires { Valid control tables.old }
-    ensures { Promised (Arrive id packet) control
-        tables.old result
-        tables.new }
+    ensures { Promised (Arrive id packet) control tables.old result tables.new }
 {
     if let Err(refusal) = check_arrive(control, &tables.terms, &tables.stocks, id, packet) {
         let number = refusal.number();

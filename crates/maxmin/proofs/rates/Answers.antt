@@ -6,6 +6,7 @@ use Rattle.maxmin.proofs.rates.Goals.{then-not-is_acceptable-via-then-not-is_acc
 
 pub returns-then-not-is_acceptable : goal.returns-then-not-is_acceptable
 returns-then-not-is_acceptable c =
+    rw c.number.ensures
     elim c.then-not-is_acceptable.branch [
       | then-not-is_acceptable-via-then-not-is_acceptable w ↦ refused_list _ _ _ _ (sym c.is_acceptable.ensures ∙ w.if-not-is_acceptable.true)
       | then-not-is_acceptable-via-else-not-is_acceptable+then-rates-demands w ↦

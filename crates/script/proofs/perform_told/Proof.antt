@@ -76,7 +76,7 @@ returns-in-Join : tie.Need-returns-in-Join
 unfolding is_tick
 returns-in-Join c =
     rw c.in-Join.is
-    (record { promised = rw c.undrawn-in-Join.ensures c.join.ensures; sum = λ tick. true-false tick refl })
+    (record { promised = rw c.undrawn-in-Join.ensures c.join.ensures.0; sum = λ tick. true-false tick refl })
 
 returns-in-Change : tie.Need-returns-in-Change
 unfolding is_tick
