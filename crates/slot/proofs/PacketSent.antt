@@ -9,7 +9,7 @@ use native.Mathlib.Nat.{mod-eq_of_lt}
 use native.Mathlib.Omega.{arith}
 use lib.Dec.{eqb}
 use lib.ListN.{length-set}
-use borrow.Author.Tests.{eq-eqb, ne_eqb, eqb-true, not-false}
+use borrow.Author.Tests.{ne_eqb, eqb-true, not-false}
 use Rattle.definitions.specs.declared.Packet.{Packet}
 use Rattle.definitions.specs.declared.Outcome.{Outcome}
 use Rattle.definitions.specs.declared.Outcome.TheVariants.{Real}
@@ -19,7 +19,7 @@ use Rattle.definitions.specs.Stock.{Stock, empty, spent}
 use Rattle.definitions.specs.State.{updated, put, without_first}
 use Rattle.definitions.specs.Tick.{padding, sent_from, sent}
 use Rattle.definitions.specs.Limits.{LengthsFit, QueueBy}
-use Rattle.definitions.proofs.Laws.Tests.{true-false, eqb_same}
+use Rattle.definitions.proofs.Laws.Tests.{eqb_same}
 use Rattle.definitions.proofs.Laws.Rates.{held}
 use Rattle.marks.specs.Marks.{marked}
 use Rattle.order.specs.Order.{sentinel, Ordered}
@@ -52,14 +52,7 @@ module _ (c : Control) (t : Tables) (id : ℕ) (sender : Sender c t id) where
   abbrev place : ℕ
   place = id * places + head
 
-  -- the mark says whether a packet waits
-  pub marked_some : marked c.waiting id ≡ true → 0 < count
-  marked_some e = go count refl
-    where
-      go : (n : ℕ) → count ≡ n → 0 < n
-      go zero f = true-false e (waits_here c t old id sender.below ∙ ap not (eq-eqb count 0 f))
-      go (suc n) f = omega arith
-
+  -- an id without the mark has no packet
   pub unmarked_none : marked c.waiting id ≡ false → count ≡ 0
   unmarked_none e =
       eqb-true count 0 (not-false (eqb count 0) (sym (waits_here c t old id sender.below) ∙ e))
