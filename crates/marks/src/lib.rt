@@ -50,7 +50,7 @@ pub fn both(a: u64, b: u64) -> u64
 pub fn any(word: u64) -> bool
     ensures { result ≡ any_below ids (marked word) }
 {
-    0 < u64::count_ones(word)
+    0 < word.count_ones()
 }
 
 // The lowest id that has a mark; 64 if none has.
@@ -58,7 +58,7 @@ pub fn any(word: u64) -> bool
 pub fn first(word: u64) -> u32
     ensures { result ≡ first_from 0 ids (marked word) }
 {
-    u64::trailing_zeros(word)
+    word.trailing_zeros()
 }
 
 // The word without its lowest mark: one less than the word lacks that mark, and has the same marks

@@ -98,7 +98,7 @@ fn put_between(out: &mut [u8], at: usize, before: &[u8], n: u32, behind: &[u8]) 
     ensures { Appended ((before.now ++ decimal n) ++ behind.now)
         out.old at out.new result }
 {
-    let end = put_number(out, at, before, n as u64);
+    let end = put_number(out, at, before, u64::from(n));
     put(out, end, behind)
 }
 
@@ -108,9 +108,9 @@ fn put_real(out: &mut [u8], at: usize, id: u32, packet: Packet, padding: u32) ->
     ensures { Appended (printed (Answer.Slot (Outcome.Real id packet padding)))
         out.old at out.new result }
 {
-    let id_end = put_number(out, at, b"(slot (real ", id as u64);
+    let id_end = put_number(out, at, b"(slot (real ", u64::from(id));
     let handle_end = put_number(out, id_end, b" ", packet.handle);
-    let length_end = put_number(out, handle_end, b" ", packet.length as u64);
+    let length_end = put_number(out, handle_end, b" ", u64::from(packet.length));
     put_between(out, length_end, b" ", padding, b"))\n")
 }
 
@@ -163,7 +163,7 @@ fn print_pair(out: &mut [u8], at: usize, text: &[u8], first: u32, second: u32) -
     if !has_room(out.len(), at) {
         return at;
     }
-    let end = put_number(out, at, text, first as u64);
+    let end = put_number(out, at, text, u64::from(first));
     put_between(out, end, b" ", second, b")\n")
 }
 
@@ -227,10 +227,10 @@ fn put_outcome(out: &mut [u8], at: usize, outcome: Outcome) -> usize
             padding,
         } => {
             let fields = [
-                id as u64,
+                u64::from(id),
                 packet.handle,
-                packet.length as u64,
-                padding as u64,
+                u64::from(packet.length),
+                u64::from(padding),
             ];
             put_filled(
                 out,
@@ -261,7 +261,7 @@ fn put_drawn(out: &mut [u8], at: usize, target: u32, sum: u64) -> usize
     requires { at + reason_room ≤ length out.old }
     ensures { Appended (drawn_text target sum) out.old at out.new result }
 {
-    let fields = [target as u64, sum];
+    let fields = [u64::from(target), sum];
     put_filled(
         out,
         at,
@@ -313,7 +313,7 @@ pub fn print_counts(out: &mut [u8], at: usize, id: u32, counts: CountSheet) -> u
         return at;
     }
     let fields = [
-        id as u64,
+        u64::from(id),
         counts.accepted,
         counts.sent,
         counts.full,

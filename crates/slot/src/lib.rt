@@ -61,7 +61,7 @@ fn private_total(control: Control, terms: &[u32; TERMS]) -> u64
     if control.indifferent == 0 {
         return u64::from(control.rates);
     }
-    if u64::count_ones(control.private) < u64::count_ones(control.indifferent) {
+    if control.private.count_ones() < control.indifferent.count_ones() {
         return draw::total(control.private, terms);
     }
     u64::from(control.rates) - draw::total(control.indifferent, terms)
@@ -270,7 +270,7 @@ fn refill_all(word: u64, terms: &mut [u32; TERMS])
     requires { Refillable word terms.old }
     ensures { Refilled word terms.old terms.new }
 {
-    if u64::count_ones(word) < DENSE {
+    if word.count_ones() < DENSE {
         refill_marked(word, terms);
     } else {
         refill_each(word, terms);

@@ -18,13 +18,15 @@ returns-then-not-has_room c =
 pub put_filled-requires : goal.put_filled-requires
 put_filled-requires c =
     let narrow : NarrowCounts c.args.id c.args.counts = omega arith in
-    filled_room _ _ (omega (arith, counts_digits _ _ narrow)) _
-    (roomy c.args.out.now c.args.at c.has_room.ensures (ap not c.if-not-has_room.false))
+    rw c.from.ensures
+    (filled_room _ _ (omega (arith, counts_digits _ _ narrow)) _
+    (roomy c.args.out.now c.args.at c.has_room.ensures (ap not c.if-not-has_room.false)))
 
 pub returns : goal.returns
 unfolding count_line
 returns c =
-    let narrow : NarrowCounts c.args.id c.args.counts = omega arith in (
-      wrote c.args.out.now c.args.at c.has_room.ensures (ap not c.if-not-has_room.false) c.put_filled.ensures,
-      omega (arith, c.put_filled.ensures.place, counts_room _ _ narrow c.args.at (le_refl (c.args.at + line_room))),
+    let narrow : NarrowCounts c.args.id c.args.counts = omega arith in
+    let written = rw c.from.ensures at c.put_filled.ensures in (
+      wrote c.args.out.now c.args.at c.has_room.ensures (ap not c.if-not-has_room.false) written,
+      omega (arith, written.place, counts_room _ _ narrow c.args.at (le_refl (c.args.at + line_room))),
     )

@@ -35,17 +35,18 @@ pub put_number-end-requires : goal.put_number-end-requires
 put_number-end-requires c =
     let a = c.args in
     let room = roomy a.out.now a.at c.has_room.ensures (ap not c.if-not-has_room.false) in
-    front_room (first_part a.text.now a.first) (second_part a.second) a.out.now a.at
-    (both-room a.text.now a.first a.second a.at _ c.requires (omega arith) (omega arith) room)
+    rw c.from.ensures
+    (front_room (first_part a.text.now a.first) (second_part a.second) a.out.now a.at
+    (both-room a.text.now a.first a.second a.at _ c.requires (omega arith) (omega arith) room))
 
 pub put_between-requires : goal.put_between-requires
 put_between-requires c =
     let a = c.args in
     let room = roomy a.out.now a.at c.has_room.ensures (ap not c.if-not-has_room.false) in
-    appended_room c.put_number-end.ensures (second_part a.second)
+    appended_room (rw c.from.ensures at c.put_number-end.ensures) (second_part a.second)
     (both-room a.text.now a.first a.second a.at _ c.requires (omega arith) (omega arith) room)
 
 pub returns : goal.returns
 returns c =
     wrote c.args.out.now c.args.at c.has_room.ensures (ap not c.if-not-has_room.false)
-    (appended_more c.put_number-end.ensures c.put_between.ensures)
+    (appended_more (rw c.from.ensures at c.put_number-end.ensures) c.put_between.ensures)

@@ -6,8 +6,8 @@ use Rattle.printer.proofs.put_drawn.Goals as goal
 
 pub put_filled-requires : goal.put_filled-requires
 unfolding drawn_text
-put_filled-requires c = drawn_room c.args.target c.args.sum (omega arith) (omega arith) _ c.requires
+put_filled-requires c = rw c.from.ensures (drawn_room c.args.target c.args.sum (omega arith) (omega arith) _ c.requires)
 
 pub returns : goal.returns
 unfolding drawn_text
-returns c = c.put_filled.ensures
+returns c = rw c.from.ensures at c.put_filled.ensures

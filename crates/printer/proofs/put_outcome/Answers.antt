@@ -42,7 +42,8 @@ put_between-requires-in-Idle c = outcome_room_lem (Idle _) (omega arith) _ c.req
 
 pub returns-in-Real : goal.returns-in-Real
 unfolding shown outcome_text values
-returns-in-Real c = written (Real _ _ _) c.in-Real.is (omega arith) c.put_filled.ensures
+returns-in-Real c =
+    written (Real _ _ _) c.in-Real.is (omega arith) (rw (c.from.ensures, c.from-in-Real.ensures, c.from-in-Real-2.ensures) at c.put_filled.ensures)
 
 pub returns-in-Dummy : goal.returns-in-Dummy
 unfolding shown outcome_text values filled

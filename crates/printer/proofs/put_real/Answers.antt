@@ -46,36 +46,37 @@ module _ (id : ℕ) (packet : Packet) (padding : ℕ) where
 pub put_number-id_end-requires : goal.put_number-id_end-requires
 put_number-id_end-requires c =
     let a = c.args in
-    front_room (id_text a.id a.packet a.padding) (behind_id a.id a.packet a.padding) a.out.now a.at
-    (room a.id a.packet a.padding a.out.now a.at c.requires)
+    rw c.from.ensures
+    (front_room (id_text a.id a.packet a.padding) (behind_id a.id a.packet a.padding) a.out.now a.at
+    (room a.id a.packet a.padding a.out.now a.at c.requires))
 
 pub put_number-handle_end-requires : goal.put_number-handle_end-requires
 put_number-handle_end-requires c =
     let a = c.args in
     let first = room a.id a.packet a.padding a.out.now a.at c.requires in
-    let second = appended_room c.put_number-id_end.ensures (behind_id a.id a.packet a.padding) first in
+    let second = appended_room (rw c.from.ensures at c.put_number-id_end.ensures) (behind_id a.id a.packet a.padding) first in
     front_room (handle_text a.id a.packet a.padding) (behind_handle a.id a.packet a.padding) _ _ second
 
 pub put_number-length_end-requires : goal.put_number-length_end-requires
 put_number-length_end-requires c =
     let a = c.args in
     let first = room a.id a.packet a.padding a.out.now a.at c.requires in
-    let second = appended_room c.put_number-id_end.ensures (behind_id a.id a.packet a.padding) first in
+    let second = appended_room (rw c.from.ensures at c.put_number-id_end.ensures) (behind_id a.id a.packet a.padding) first in
     let third = appended_room c.put_number-handle_end.ensures (behind_handle a.id a.packet a.padding) second in
-    front_room (length_text a.id a.packet a.padding) (padding_text a.id a.packet a.padding) _ _ third
+    rw c.from-2.ensures (front_room (length_text a.id a.packet a.padding) (padding_text a.id a.packet a.padding) _ _ third)
 
 pub put_between-requires : goal.put_between-requires
 put_between-requires c =
     let a = c.args in
     let first = room a.id a.packet a.padding a.out.now a.at c.requires in
-    let second = appended_room c.put_number-id_end.ensures (behind_id a.id a.packet a.padding) first in
+    let second = appended_room (rw c.from.ensures at c.put_number-id_end.ensures) (behind_id a.id a.packet a.padding) first in
     let third = appended_room c.put_number-handle_end.ensures (behind_handle a.id a.packet a.padding) second in
-    appended_room c.put_number-length_end.ensures (padding_text a.id a.packet a.padding) third
+    appended_room (rw c.from-2.ensures at c.put_number-length_end.ensures) (padding_text a.id a.packet a.padding) third
 
 pub returns : goal.returns
 returns c =
     let a = c.args in
     appended_as (whole a.id a.packet a.padding)
-    (appended_more c.put_number-id_end.ensures
+    (appended_more (rw c.from.ensures at c.put_number-id_end.ensures)
     (appended_more c.put_number-handle_end.ensures
-    (appended_more c.put_number-length_end.ensures c.put_between.ensures)))
+    (appended_more (rw c.from-2.ensures at c.put_number-length_end.ensures) c.put_between.ensures)))
