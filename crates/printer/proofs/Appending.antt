@@ -58,14 +58,6 @@ pub appended_byte : (byte : ℕ) (before : List ℕ) (at : ℕ) → at < length 
     → Appended (byte ∷ []) before at (set before at byte) (at + 1)
 appended_byte byte before at room = record { place = refl; room = omega arith; bytes = refl }
 
-pub appended_two : (first second : ℕ) (before : List ℕ) (at : ℕ) → at + 2 ≤ length before
-    → Appended (first ∷ second ∷ []) before at (set (set before at first) (at + 1) second) (at + 2)
-appended_two first second before at room = record {
-  place = refl;
-  room = omega arith;
-  bytes = ap (λ (k : ℕ). set (set before at first) k second) (omega arith);
-}
-
 -- On the way: what is left to write, on the bytes as they are now, gives the whole text on the bytes as they were.
 pub record Left (all before : List ℕ) (at : ℕ) (rest now : List ℕ) (end : ℕ) : Type 0 where
   pub place : end + length rest ≡ at + length all

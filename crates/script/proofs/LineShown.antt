@@ -3,7 +3,6 @@
 -- Assumes nothing.
 use Prim.Native.Nat.{ℕ}
 use mathlib.Core.Path.{◌≡◌, refl, ap, ap₂, ◌∙◌}
-use mathlib.Core.Logic.{◌≢◌}
 use mathlib.Core.Bool.{Bool, true, false, cond}
 use mathlib.Core.List.{List, []}
 use native.Mathlib.Omega.{arith}
@@ -36,19 +35,6 @@ unfolding shown answered
 unread_shown Caller core unread = refl
 unread_shown Operator core unread = refl
 unread_shown (Tenant id) core unread = refl
-
--- whoever is no tenant is told what the operator is, and whoever is not the caller is told of ticks alone
-module _ (core : Core) (answer : Answer) (sum : ℕ) where
-  pub note_whole : (to : Audience) → ((id : ℕ) → to ≢ Tenant id) → note_of answer (reason_left sum core) ≡ note_for to core answer sum
-  note_whole Caller other = refl
-  note_whole Operator other = refl
-  note_whole (Tenant id) other = absurd (other id refl)
-
-  pub call-told : (ticked : Bool) (to : Audience) → to ≢ Caller
-      → cond ticked (sentence (note_for to core answer sum)) [] ≡ call_for to ticked core answer sum
-  call-told ticked Caller other = absurd (other refl)
-  call-told ticked Operator other = refl
-  call-told ticked (Tenant id) other = refl
 
 -- where two notes are the same if a call is a tick, so are their sentences or, of any other call, nothing
 tick_shown : (ticked : Bool) (note told : Note) → (ticked ≡ true → note ≡ told)
