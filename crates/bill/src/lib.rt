@@ -43,7 +43,7 @@ fn print_lines(out: &mut [u8], control: Control, counts: &[u64; COUNTS]) -> usiz
 }
 
 // Writes the lines behind a text at the start of the buffer, and gives how many bytes they have. The tables may hold anything. Without
-// room for a line of every id nothing is done.
+// room for a line of every id nothing is done. With `forecast` it shares `carry_out`; what is told behind that has a definition of its own.
 pub fn bill(text: &[u8], out: &mut [u8], tables: &mut Tables) -> usize
     ensures { Billed text.now out.old tables.old out.new result tables.new }
 {

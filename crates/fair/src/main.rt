@@ -29,7 +29,7 @@ fn write_printout(rt: &impl Print, text: &[u8]) -> Result<usize, Error>
 }
 
 // Reads the text and writes its printout, or gives what failed, and why. The room for the text is more than the longest that is read, so
-// that a longer one is seen to be longer.
+// that a longer one is seen to be longer. Like that of slots, but for the words and what is written.
 fn run(rt: &HostRuntime) -> Result<usize, (&'static str, Error)> {
     let mut text = io::large_buffer();
     let read = streams::read_text(&mut rt.stdin(), &mut text);

@@ -35,7 +35,8 @@ fn print_line(
 }
 
 // Writes the line behind a text at the start of the buffer, and gives how many bytes it has. The tables may hold anything.
-// Without room for a line no piece would go on, so nothing is done.
+// Without room for a line no piece would go on, so nothing is done. With `bill` it shares `carry_out`; what is told behind that has a
+// definition of its own.
 pub fn forecast(text: &[u8], ticks: u32, out: &mut [u8], tables: &mut Tables) -> usize
     ensures { Told text.now ticks out.old tables.old out.new result tables.new }
 {

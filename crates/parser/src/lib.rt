@@ -167,7 +167,7 @@ fn read_form(
     read_as(behind, rest, numbers)
 }
 
-// The forms of each call: a group of `rules`.
+// The forms of each call: a group of `rules`. One function for each, since its contract names its group; what they share is `read_form`.
 fn parse_open(line: &[u8]) -> Result<Call, Unread>
     ensures { result ≡ parsed_by open_forms line.now }
 {
@@ -318,7 +318,8 @@ pub fn parse(line: &[u8]) -> Result<Call, Unread>
     }
 }
 
-// The first line of a text of demands, with the line feed that closes it (paper 02, S-8).
+// The first line of a text of demands, with the line feed that closes it (paper 02, S-8). It and `demand` each name a form of their own in their
+// contracts; what they share is `read_form`.
 pub fn threshold(line: &[u8]) -> Result<Pair, Unread>
     ensures { result ≡ pair_of threshold_form line.now }
 {
