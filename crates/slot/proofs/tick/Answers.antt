@@ -10,6 +10,8 @@ use Rattle.slot.proofs.WholeTick.{tick_refused, undrawn_draws, turn_draws, done_
 use Rattle.slot.proofs.TickCounts.{tick_refused_counts, tick_sender, tick_counts}
 use Rattle.slot.proofs.tick.Goals as goal
 
+-- what an unopened core answers,
+-- by the number of the refusal
 abbrev refusing : Control → ℕ → Answered
 refusing c n = record { control = c; answer = Refused n }
 
