@@ -12,7 +12,7 @@ ghost use Rattle.definitions.specs.Refusals.{number_in};
 ghost use Rattle.order.specs.Order.{Sound, Ordered};
 ghost use Rattle.order.specs.Owner.{places_of};
 ghost use Rattle.tables.specs.declared.Tables.{Tables};
-ghost use Rattle.tables.specs.Tables.{count_at, ring};
+ghost use Rattle.tables.specs.Tables.{tables, rate_at, count_at, ring};
 ghost use Rattle.tables.specs.Controls.{with_rates};
 ghost use Rattle.tables.specs.Meaning.{kind_at};
 ghost use Rattle.tables.specs.Invariant.{Valid};
@@ -21,10 +21,10 @@ ghost use Rattle.tables.specs.Places.{Promised};
 ghost use Rattle.settings.specs.Writes.{Room, Ready, with_terms, retuned_level, rates_after, with_bare};
 ghost use Rattle.settings.specs.Writes.{Remarked, Recast, Quiet, Withdrawn, Withdraws, Empties};
 
-use counts::Counted;
+use counts::{COUNTS, Counted};
 use definitions::{BURST_LIMIT, ClientKind, IDS, PLACES, Refusal, SHARES};
 use order::LINKS;
-use tables::{Answered, BURST, COUNT, Control, HEAD, LEVEL, POOL, RATE, STOCKS, TERMS, Tables};
+use tables::{Answered, BURST, COUNT, Control, HEAD, LEVEL, POOL, RATE, STOCKS, STORE, TERMS};
 
 // A word with the mark of an id set or taken.
 fn set_mark(word: u64, id: u32, on: bool) -> u64
@@ -219,18 +219,21 @@ fn check_join(
 // The kind that a change names, or what it is refused for: 19, 4, 5, and by the terms, with the old rate taken off.
 fn check_change(
     control: Control,
-    tables: &Tables,
+    terms: &[u32; TERMS],
     id: u32,
     kind: u32,
     rate: u32,
     burst: u32,
 ) -> Result<ClientKind, Refusal>
-    requires { Valid control tables.now }
-    ensures number { number_in result ≡ refusal control tables.now (λ s. change_checks s id kind rate burst) }
+    requires { control.opened ≡ true → id < ids → rate_at terms.now id ≤ control.rates }
+    ensures number { (stocks handles lengths links counts : List ℕ)
+        → Valid control (tables terms.now stocks handles lengths links counts)
+        → number_in result ≡ refusal control (tables terms.now stocks handles lengths links counts)
+        (λ s. change_checks s id kind rate burst) }
     ensures named { IfOk result (λ k. kind ≡ type_of k) }
 {
     tables::check_active(control, id)?;
-    let others = control.rates - tables.terms[(RATE + id) as usize];
+    let others = control.rates - terms[(RATE + id) as usize];
     check_terms(control.threshold, others, kind, rate, burst)
 }
 
@@ -255,66 +258,92 @@ fn waiting_of(stocks: &[u32; STOCKS], id: u32) -> u64
 
 // Sets an inactive id up with a client, whose counts begin at zero (paper 01, "Join"). Refused: 19, 4, 6, 7, 8, 9, 10.
 // The kind is a number: a call may name any, and `Promised (Join id kind ..)` answers 7 to one that is none.
+// The tables come one by one, here and in change and leave: what a call does not write is lent by `&`.
 pub fn join(
     control: Control,
-    tables: &mut Tables,
+    terms: &mut [u32; TERMS],
+    stocks: &mut [u32; STOCKS],
+    handles: &[u64; STORE],
+    lengths: &[u16; STORE],
+    links: &[u32; LINKS],
+    counts: &mut [u64; COUNTS],
     id: u32,
     kind: u32,
     rate: u32,
     burst: u32,
 ) -> Answered
-    requires { Valid control tables.old }
-    ensures promised { Promised (Join id kind rate burst) control tables.old result tables.new }
-    ensures links { tables.new.links ≡ tables.old.links }
+    requires { Valid control (tables terms.old stocks.old handles.now lengths.now links.now counts.old) }
+    ensures { Promised (Join id kind rate burst) control
+        (tables terms.old stocks.old handles.now lengths.now links.now
+        counts.old) result
+        (tables terms.new stocks.new handles.now lengths.now links.now
+        counts.new) }
 {
     let named = match check_join(control, id, kind, rate, burst) {
         Ok(named) => named,
         Err(refusal) => return tables::refused(control, refusal.number()),
     };
-    let bare = clear(control, &mut tables.stocks, id);
-    counts::clear(&mut tables.counts, id);
-    tables::accepted(place_client(bare, &mut tables.terms, id, Some(named), rate, burst))
+    let bare = clear(control, stocks, id);
+    counts::clear(counts, id);
+    tables::accepted(place_client(bare, terms, id, Some(named), rate, burst))
 }
 
 // Gives an active client new terms, and a new start where its kind differs (paper 01, "Change"). What that empties is counted.
 // Refused: 19, 4, 5, 7, 8, 9, 10.
 pub fn change(
     control: Control,
-    tables: &mut Tables,
+    terms: &mut [u32; TERMS],
+    stocks: &mut [u32; STOCKS],
+    handles: &[u64; STORE],
+    lengths: &[u16; STORE],
+    links: &mut [u32; LINKS],
+    counts: &mut [u64; COUNTS],
     id: u32,
     kind: u32,
     rate: u32,
     burst: u32,
 ) -> Answered
-    requires { Valid control tables.old }
-    ensures { Promised (Change id kind rate burst) control tables.old result tables.new }
+    requires { Valid control (tables terms.old stocks.old handles.now lengths.now links.old counts.old) }
+    ensures { Promised (Change id kind rate burst) control
+        (tables terms.old stocks.old handles.now lengths.now links.old
+        counts.old) result
+        (tables terms.new stocks.new handles.now lengths.now links.new
+        counts.new) }
 {
-    let named = match check_change(control, tables, id, kind, rate, burst) {
+    let named = match check_change(control, terms, id, kind, rate, burst) {
         Ok(named) => named,
         Err(refusal) => return tables::refused(control, refusal.number()),
     };
     if keeps_kind(control, id, named) {
-        return tables::accepted(retune(control, &mut tables.terms, id, rate, burst));
+        return tables::accepted(retune(control, terms, id, rate, burst));
     }
-    counts::raise(
-        &mut tables.counts,
-        id,
-        Counted::Emptied,
-        waiting_of(&tables.stocks, id),
-    );
-    let bare = empty(control, &mut tables.stocks, &mut tables.links, id);
-    tables::accepted(place_client(bare, &mut tables.terms, id, Some(named), rate, burst))
+    counts::raise(counts, id, Counted::Emptied, waiting_of(stocks, id));
+    let bare = empty(control, stocks, links, id);
+    tables::accepted(place_client(bare, terms, id, Some(named), rate, burst))
 }
 
 // Takes an active client away, with all that it has, its counts too (paper 01, "Leave"). Refused: 19, 4, 5.
-pub fn leave(control: Control, tables: &mut Tables, id: u32) -> Answered
-    requires { Valid control tables.old }
-    ensures { Promised (Leave id) control tables.old result tables.new }
+pub fn leave(
+    control: Control,
+    terms: &mut [u32; TERMS],
+    stocks: &mut [u32; STOCKS],
+    handles: &[u64; STORE],
+    lengths: &[u16; STORE],
+    links: &mut [u32; LINKS],
+    counts: &mut [u64; COUNTS],
+    id: u32,
+) -> Answered
+    requires { Valid control (tables terms.old stocks.old handles.now lengths.now links.old counts.old) }
+    ensures { Promised (Leave id) control
+        (tables terms.old stocks.old handles.now lengths.now links.old
+        counts.old) result
+        (tables terms.new stocks.new handles.now lengths.now links.new
+        counts.new) }
 {
     if let Err(refusal) = tables::check_active(control, id) {
         return tables::refused(control, refusal.number());
     }
-    let bare = empty(control, &mut tables.stocks, &mut tables.links, id);
-    counts::clear(&mut tables.counts, id);
-    tables::accepted(place_client(bare, &mut tables.terms, id, None, 0, 0))
+    let bare = empty(control, stocks, links, id);
+    counts::clear(counts, id);
+    tables::accepted(place_client(bare, terms, id, None, 0, 0))
 }

@@ -7,8 +7,8 @@ use Rattle.tables.proofs.Promises.{meets_recounted, in_place}
 use Rattle.settings.proofs.JoinPromise.{join_refused, join_refused_counts, join_below, join_room, join_accepted, join_counts}
 use Rattle.settings.proofs.join.Goals as goal
 
-pub returns-in-Err-clause-promised : goal.returns-in-Err-clause-promised
-returns-in-Err-clause-promised c =
+pub returns-in-Err : goal.returns-in-Err
+returns-in-Err c =
     let a = c.args in
     in_place refl refl
     (join_refused_counts a.control _ c.requires a.id a.kind a.rate a.burst c.refused.result _ c.refused.ensures)
@@ -32,8 +32,8 @@ place_client-requires c =
     join_room a.control _ c.requires a.id a.kind a.rate a.burst (sym (c.in-Ok.ensures.number _ c.requires))
     c.clear-bare.result c.clear-bare.ensures.quiet
 
-pub returns-clause-promised : goal.returns-clause-promised
-returns-clause-promised c =
+pub returns : goal.returns
+returns c =
     let a = c.args in
     let p = c.place_client in
     let q = c.clear-bare in
