@@ -20,11 +20,12 @@ ghost use Rattle.slot.specs.Sends.{Settled, popped, Unlinked, SomeSender, Spends
 ghost use Rattle.slot.specs.Slots.{SomeDue, Does};
 ghost use Rattle.slot.specs.Buckets.{Refillable, Refilled};
 
+use counts::COUNTS;
 use definitions::{Answer, FIRST_COME, IDS, LONGEST, Outcome, PLACES, Packet, Refusal};
 use draw::Sample;
 use generator::Generator;
 use order::LINKS;
-use tables::{Answered, BURST, COUNT, Control, HEAD, LEVEL, POOL, STOCKS, STORE, TERMS, Tables};
+use tables::{Answered, BURST, COUNT, Control, HEAD, LEVEL, POOL, STOCKS, STORE, TERMS};
 
 // From how many indifferent ids on all ids are gone through.
 const DENSE: u32 = 12;
@@ -314,11 +315,26 @@ pub struct Ticked {
 }
 
 // One slot (paper 01, "Tick is one slot"): rules 1 to 3 say whose it is, and rule 4 refills after the pick. What was sent is counted.
-// Refused: 19.
-pub fn tick(control: Control, tables: &mut Tables) -> Ticked
-    requires { Valid control tables.old }
-    ensures promised { Promised Tick control tables.old result.answered tables.new }
-    ensures stands_for { StandsFor result.sample (draws_of (core_of control tables.old)) }
+// Refused: 19. The tables come one by one: those that a tick does not write, handles and lengths, are lent by `&`.
+pub fn tick(
+    control: Control,
+    terms: &mut [u32; TERMS],
+    stocks: &mut [u32; STOCKS],
+    handles: &[u64; STORE],
+    lengths: &[u16; STORE],
+    links: &mut [u32; LINKS],
+    counts: &mut [u64; COUNTS],
+) -> Ticked
+    requires { Valid control (tables terms.old stocks.old handles.now lengths.now links.old counts.old) }
+    ensures promised { Promised Tick control
+        (tables terms.old stocks.old handles.now lengths.now links.old
+        counts.old)
+        result.answered
+        (tables terms.new stocks.new handles.now lengths.now links.new
+        counts.new) }
+    ensures stands_for { StandsFor result.sample (draws_of (core_of control
+        (tables terms.old stocks.old handles.now lengths.now links.old
+        counts.old))) }
 {
     if !control.opened {
         let answered = tables::refused(control, Refusal::Unopened.number());
@@ -327,20 +343,13 @@ pub fn tick(control: Control, tables: &mut Tables) -> Ticked
             sample: draw::undrawn(control.generator),
         };
     }
-    let choice = turn(control, &tables.terms, &tables.links);
+    let choice = turn(control, terms, links);
     let sample = choice.sample;
-    let sent = spend(
-        control,
-        &mut tables.stocks,
-        &tables.handles,
-        &tables.lengths,
-        &mut tables.links,
-        choice,
-    );
-    refill_all(control.indifferent, &mut tables.terms);
+    let sent = spend(control, stocks, handles, lengths, links, choice);
+    refill_all(control.indifferent, terms);
     let after = sent.control;
     let outcome = sent.outcome;
-    counts::send(&mut tables.counts, outcome);
+    counts::send(counts, outcome);
     let answered = Answered {
         control: after,
         answer: Answer::Slot { outcome },

@@ -11,8 +11,9 @@ ghost use Rattle.tables.specs.Invariant.{Valid};
 ghost use Rattle.tables.specs.Numbers.{refusal};
 ghost use Rattle.tables.specs.Places.{Promised};
 
-use counts::Counted;
+use counts::{COUNTS, Counted};
 use definitions::{LONGEST, PLACES, POOL_LIMIT, Packet, Refusal, SHARES, SHORTEST};
+use order::LINKS;
 use tables::{Answered, COUNT, Control, HEAD, LEVEL, POOL, STOCKS, STORE, TERMS, Tables};
 
 // What a load is refused for: 19, 4, 5, 11, 12.
@@ -36,15 +37,29 @@ fn check_load(
 }
 
 // Adds dummies to a private client's pool (paper 01, "Load"). Refused: 19, 4, 5, 11, 12.
-pub fn load(control: Control, tables: &mut Tables, id: u32, dummies: u32) -> Answered
-    requires { Valid control tables.old }
-    ensures promised { Promised (Load id dummies) control tables.old result tables.new }
-    ensures others { tables.new ≡ record tables.old { stocks = tables.new.stocks } }
+// The tables come one by one: those that a load does not write are lent by `&`.
+pub fn load(
+    control: Control,
+    terms: &[u32; TERMS],
+    stocks: &mut [u32; STOCKS],
+    handles: &[u64; STORE],
+    lengths: &[u16; STORE],
+    links: &[u32; LINKS],
+    counts: &[u64; COUNTS],
+    id: u32,
+    dummies: u32,
+) -> Answered
+    requires { Valid control (tables terms.now stocks.old handles.now lengths.now links.now counts.now) }
+    ensures { Promised (Load id dummies) control
+        (tables terms.now stocks.old handles.now lengths.now links.now
+        counts.now) result
+        (tables terms.now stocks.new handles.now lengths.now links.now
+        counts.now) }
 {
-    if let Err(refusal) = check_load(control, &tables.stocks, id, dummies) {
+    if let Err(refusal) = check_load(control, stocks, id, dummies) {
         return tables::refused(control, refusal.number());
     }
-    tables.stocks[(POOL + id) as usize] += dummies;
+    stocks[(POOL + id) as usize] += dummies;
     tables::accepted(control)
 }
 

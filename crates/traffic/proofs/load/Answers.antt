@@ -7,34 +7,34 @@ use Rattle.tables.proofs.ActiveChecks.{refused_as}
 use Rattle.traffic.proofs.LoadPromise.{load_refused, load_refused_counts, load_below, load_fits, load_accepted, load_counts}
 use Rattle.traffic.proofs.load.Goals as goal
 
-pub returns-in-Err-clause-promised : goal.returns-in-Err-clause-promised
-returns-in-Err-clause-promised c =
+pub returns-in-Err : goal.returns-in-Err
+returns-in-Err c =
     let a = c.args in
-    let failed = refused_as c.in-Err.is c.number.ensures (c.check_load.ensures a.tables.now.terms a.tables.now.handles a.tables.now.lengths a.tables.now.links a.tables.now.counts) in
+    let failed = refused_as c.in-Err.is c.number.ensures (c.check_load.ensures a.terms.now a.handles.now a.lengths.now a.links.now a.counts.now) in
     in_place refl refl
     (load_refused_counts a.control _ c.requires a.id a.dummies c.refused.result _ c.refused.ensures)
     (load_refused a.control _ c.requires a.id a.dummies c.refused.result _ c.refused.ensures failed.0 failed.1)
 
-pub overflow_add-tables : goal.overflow_add-tables
+pub overflow_add-stocks : goal.overflow_add-stocks
 unfolding ids
-overflow_add-tables c = record { fits = omega (arith, load_below c.args.control c.args.tables.now c.requires c.args.id c.args.dummies (sym (c.in_default.ensures _ _ _ _ _))) }
+overflow_add-stocks c = record { fits = omega (arith, load_below c.args.control _ c.requires c.args.id c.args.dummies (sym (c.in_default.ensures _ _ _ _ _))) }
 
-pub bounds-tables-id : goal.bounds-tables-id
+pub bounds-stocks-id : goal.bounds-stocks-id
 unfolding ids
-bounds-tables-id c = omega (arith, load_below c.args.control c.args.tables.now c.requires c.args.id c.args.dummies (sym (c.in_default.ensures _ _ _ _ _)))
+bounds-stocks-id c = omega (arith, load_below c.args.control _ c.requires c.args.id c.args.dummies (sym (c.in_default.ensures _ _ _ _ _)))
 
-pub overflow_add-tables-2 : goal.overflow_add-tables-2
+pub overflow_add-stocks-2 : goal.overflow_add-stocks-2
 unfolding ids pool_limit field
-overflow_add-tables-2 c = record { fits = omega (arith, load_fits c.args.control c.args.tables.now c.requires c.args.id c.args.dummies (sym (c.in_default.ensures _ _ _ _ _))) }
+overflow_add-stocks-2 c = record { fits = omega (arith, load_fits c.args.control _ c.requires c.args.id c.args.dummies (sym (c.in_default.ensures _ _ _ _ _))) }
 
-pub bounds-tables-id-2 : goal.bounds-tables-id-2
+pub bounds-stocks-id-2 : goal.bounds-stocks-id-2
 unfolding ids
-bounds-tables-id-2 c = omega (arith, load_below c.args.control c.args.tables.now c.requires c.args.id c.args.dummies (sym (c.in_default.ensures _ _ _ _ _)))
+bounds-stocks-id-2 c = omega (arith, load_below c.args.control _ c.requires c.args.id c.args.dummies (sym (c.in_default.ensures _ _ _ _ _)))
 
-pub returns-clause-promised : goal.returns-clause-promised
+pub returns : goal.returns
 unfolding field ids
-returns-clause-promised c =
+returns c =
     let a = c.args in
     in_place refl refl
-    (load_counts a.control a.tables.now c.requires a.id a.dummies c.accepted.result c.accepted.ensures)
-    (load_accepted a.control a.tables.now c.requires a.id a.dummies (sym (c.in_default.ensures _ _ _ _ _)) c.accepted.result c.accepted.ensures)
+    (load_counts a.control _ c.requires a.id a.dummies c.accepted.result c.accepted.ensures)
+    (load_accepted a.control _ c.requires a.id a.dummies (sym (c.in_default.ensures _ _ _ _ _)) c.accepted.result c.accepted.ensures)
