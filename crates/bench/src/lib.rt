@@ -74,9 +74,20 @@ fn join_ids(
     requires { Valid control tables.old }
     ensures { Valid result tables.new }
 {
+    let Tables {
+        terms,
+        stocks,
+        handles,
+        lengths,
+        links,
+        counts,
+    } = tables;
     let mut at = control;
     for id in first..end {
-        at = settings::join(at, tables, id, kind, rate, burst).control;
+        at = settings::join(
+            at, terms, stocks, handles, lengths, links, counts, id, kind, rate, burst,
+        )
+        .control;
     }
     at
 }
@@ -142,8 +153,20 @@ fn refused_round(
     let no_sender = beyond + k % 8;
     let no_loader = beyond + k % 4;
     let a = traffic::arrive(control, tables, no_sender, packet(k, 64));
-    let b = traffic::load(a.control, tables, no_loader, k);
-    let c = settings::join(b.control, tables, id, PRIVATE, 1, 0);
+    let Tables {
+        terms,
+        stocks,
+        handles,
+        lengths,
+        links,
+        counts,
+    } = tables;
+    let b = traffic::load(
+        a.control, terms, stocks, handles, lengths, links, counts, no_loader, k,
+    );
+    let c = settings::join(
+        b.control, terms, stocks, handles, lengths, links, counts, id, PRIVATE, 1, 0,
+    );
     let d = traffic::arrive(c.control, tables, other, packet(k, 63));
     let first = add(add(sum, a.answer), b.answer);
     Tally {
@@ -172,7 +195,15 @@ fn traffic_round(control: Control, tables: &mut Tables, id: u32, k: u32, sum: u6
     ensures { Valid result.control tables.new }
 {
     let a = traffic::arrive(control, tables, id, packet(k, 64 + k % 1024));
-    let b = slot::tick(a.control, tables).answered;
+    let Tables {
+        terms,
+        stocks,
+        handles,
+        lengths,
+        links,
+        counts,
+    } = tables;
+    let b = slot::tick(a.control, terms, stocks, handles, lengths, links, counts).answered;
     Tally {
         control: b.control,
         sum: add(add(sum, a.answer), b.answer),

@@ -96,9 +96,20 @@ fn empty(control: Control, tables: &mut Tables, id: u32, plan: Plan) -> Answered
     ensures stand { PlacesStand tables.old
         tables.new }
 {
+    let Tables {
+        terms,
+        stocks,
+        handles,
+        lengths,
+        links,
+        counts,
+    } = tables;
     match plan.to {
-        None => settings::leave(control, tables, id),
-        Some(kind) => settings::change(control, tables, id, kind, plan.rate, plan.burst),
+        None => settings::leave(control, terms, stocks, handles, lengths, links, counts, id),
+        Some(kind) => settings::change(
+            control, terms, stocks, handles, lengths, links, counts, id, kind, plan.rate,
+            plan.burst,
+        ),
     }
 }
 

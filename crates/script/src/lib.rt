@@ -47,6 +47,14 @@ fn perform_told(control: Control, tables: &mut Tables, call: Call) -> Ticked
     ensures { PerformedCall call control tables.old result tables.new }
 {
     let generator = control.generator;
+    let Tables {
+        terms,
+        stocks,
+        handles,
+        lengths,
+        links,
+        counts,
+    } = tables;
     match call {
         Call::Open {
             threshold,
@@ -62,7 +70,9 @@ fn perform_told(control: Control, tables: &mut Tables, call: Call) -> Ticked
             rate,
             burst,
         } => undrawn(
-            settings::join(control, tables, id, kind, rate, burst),
+            settings::join(
+                control, terms, stocks, handles, lengths, links, counts, id, kind, rate, burst,
+            ),
             generator,
         ),
         Call::Change {
@@ -71,19 +81,26 @@ fn perform_told(control: Control, tables: &mut Tables, call: Call) -> Ticked
             rate,
             burst,
         } => undrawn(
-            settings::change(control, tables, id, kind, rate, burst),
+            settings::change(
+                control, terms, stocks, handles, lengths, links, counts, id, kind, rate, burst,
+            ),
             generator,
         ),
-        Call::Leave { id } => undrawn(settings::leave(control, tables, id), generator),
+        Call::Leave { id } => undrawn(
+            settings::leave(control, terms, stocks, handles, lengths, links, counts, id),
+            generator,
+        ),
         Call::Load { id, dummies } => undrawn(
-            traffic::load(control, tables, id, dummies),
+            traffic::load(
+                control, terms, stocks, handles, lengths, links, counts, id, dummies,
+            ),
             generator,
         ),
         Call::Arrive { id, packet } => undrawn(
             traffic::arrive(control, tables, id, packet),
             generator,
         ),
-        Call::Tick => slot::tick(control, tables),
+        Call::Tick => slot::tick(control, terms, stocks, handles, lengths, links, counts),
     }
 }
 

@@ -24,7 +24,7 @@ returns-in-Open c = rw c.in-Open.is (untold refl c.undrawn.ensures c.open.ensure
 
 pub returns-in-Join : goal.returns-in-Join
 unfolding is_tick
-returns-in-Join c = rw c.in-Join.is (untold refl c.undrawn-in-Join.ensures c.join.ensures.promised)
+returns-in-Join c = rw c.in-Join.is (untold refl c.undrawn-in-Join.ensures c.join.ensures)
 
 pub returns-in-Change : goal.returns-in-Change
 unfolding is_tick
@@ -36,7 +36,7 @@ returns-in-Leave c = rw c.in-Leave.is (untold refl c.undrawn-in-Leave.ensures c.
 
 pub returns-in-Load : goal.returns-in-Load
 unfolding is_tick
-returns-in-Load c = rw c.in-Load.is (untold refl c.undrawn-in-Load.ensures c.load.ensures.promised)
+returns-in-Load c = rw c.in-Load.is (untold refl c.undrawn-in-Load.ensures c.load.ensures)
 
 pub returns-in-Arrive : goal.returns-in-Arrive
 unfolding is_tick
