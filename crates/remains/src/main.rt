@@ -5,16 +5,18 @@
 
 ghost use Rattle.std.specs.Prelude.{◌≡◌, ◌*◌, ◌%◌, ◌<◌};
 ghost use Rattle.order.specs.Order.{sentinel};
+ghost use Rattle.tables.specs.Tables.{filled};
 ghost use Rattle.tables.specs.Invariant.{Valid};
 ghost use Rattle.runs.specs.LongRun.{block, further};
 ghost use Rattle.runs.specs.Stands.{Goes};
 ghost use Rattle.remains.specs.Remains.{waits_at, overwritten_at, overwritten_unused};
 ghost use Rattle.remains.specs.Started.{stretch, started, Starts};
 
+use counts::COUNTS;
 use definitions::PLACES;
-use order::END;
+use order::{END, LINKS};
 use runs::Progress;
-use tables::{COUNT, HEAD, STOCKS, STORE, Tables};
+use tables::{COUNT, HEAD, STOCKS, STORE, TERMS, Tables};
 use tally::BLOCK;
 
 // How many calls are made between two overwritings, and how many such stretches a block has.
@@ -152,6 +154,27 @@ fn blocks(
     }
 }
 
+// Fills the tables with a number where they lie. `Tables::filled` would do, but of a number that is no constant it takes the stack of four
+// such tables: the compiler makes the arrays and copies them.
+fn fill(tables: &mut Tables, number: u32)
+    ensures { tables.new ≡ filled number }
+{
+    tables.terms = [number; TERMS];
+    tables.stocks = [number; STOCKS];
+    tables.handles = [number as u64; STORE];
+    tables.lengths = [lower_half(number); STORE];
+    tables.links = [number; LINKS];
+    tables.counts = [number as u64; COUNTS];
+}
+
+// A run on tables of its own, which hold a number throughout. It is not drawn into `main`: the usage line would need their stack too.
+#[inline(never)]
+fn run(rt: &(impl Print + Eprint), seed: u32, count: u32, number: u32, earlier: u32) {
+    let mut tables = Tables::filled(0);
+    fill(&mut tables, number);
+    blocks(rt, earlier, seed, count, &mut tables, number);
+}
+
 // The programs of long runs begin alike; what is left of each is its usage and its blocks.
 fn main(rt: HostRuntime) {
     let given = arguments::numbers(arguments::count(&rt), |i| arguments::number(&rt, i));
@@ -160,7 +183,5 @@ fn main(rt: HostRuntime) {
         return;
     };
     let [seed, count, number, earlier] = numbers;
-    // the tables hold the number throughout
-    let mut tables = Tables::filled(number);
-    blocks(&rt, earlier, seed, count, &mut tables, number);
+    run(&rt, seed, count, number, earlier);
 }

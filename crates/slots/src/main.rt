@@ -186,7 +186,9 @@ fn read_arguments(rt: &impl Env) -> Request {
 }
 
 // Does what is asked for, or gives what failed, and why. The room for the text is more than the longest that is read, so that a longer
-// one is seen to be longer. Like that of fair, but for the words and what is written.
+// one is seen to be longer. Like that of fair, but for the words and what is written. It is not drawn into `main`: the usage line would
+// need the stack of its tables and texts too.
+#[inline(never)]
 fn run(rt: &HostRuntime, request: Request) -> Result<usize, (&'static str, Error)> {
     let mut text = io::large_buffer();
     let length = match request {
