@@ -231,8 +231,18 @@ fn opens(tables: &mut Tables, rounds: u32) -> u64 {
     a.sum.wrapping_add(b.sum)
 }
 
+// Tables at a multiple of 16 bytes. An open fills them by stores of 16 bytes, which take longer where they lie across two lines of the cache.
+#[derive(Drop)]
+struct Aligned {
+    start: u128,
+    tables: Tables,
+}
+
 // Rounds of opening anew.
 pub fn bench_opening(rounds: u32) -> u64 {
-    let mut tables = Tables::filled(0);
-    opens(&mut tables, rounds)
+    let mut aligned = Aligned {
+        start: 0,
+        tables: Tables::filled(0),
+    };
+    opens(&mut aligned.tables, rounds)
 }
